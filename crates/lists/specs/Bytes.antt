@@ -1,0 +1,18 @@
+-- Comparing lists of bytes. Assumes nothing.
+use mathlib.Core.Bool.{Bool, true, false, _&&_}
+use mathlib.Core.List.{List, [], _∷_}
+use Prim.Native.Nat.{ℕ}
+use lib.Dec.{eqb}
+
+-- two lists of bytes are the same
+unfoldable pub sameBytes : List ℕ → List ℕ → Bool
+sameBytes [] [] = true
+sameBytes [] (y ∷ ys) = false
+sameBytes (x ∷ xs) [] = false
+sameBytes (x ∷ xs) (y ∷ ys) = eqb x y && sameBytes xs ys
+
+-- the second list begins with the first
+unfoldable pub startsWith : List ℕ → List ℕ → Bool
+startsWith [] ys = true
+startsWith (x ∷ xs) [] = false
+startsWith (x ∷ xs) (y ∷ ys) = eqb x y && startsWith xs ys
