@@ -1,0 +1,16 @@
+pub mod Limits
+pub mod Numbers
+pub mod Fresh
+pub mod Tables
+pub mod Scope
+pub mod Relays
+pub mod Rent
+pub mod Outcome
+pub mod Sound
+pub mod VolumeCalls
+pub mod TokenCalls
+pub mod RelayCalls
+pub mod Advance
+pub mod SessionCalls
+pub mod Commit
+pub mod Calls
