@@ -5,6 +5,7 @@
 pub mod numbers;
 mod rows;
 
+use amount::Cap;
 pub use rows::fresh;
 pub use rows::fresh_entry;
 pub use rows::fresh_hash;
@@ -15,7 +16,6 @@ pub use rows::fresh_session;
 pub use rows::fresh_tables;
 pub use rows::fresh_token;
 pub use rows::fresh_volume;
-use amount::Cap;
 use text::Text;
 
 // Volume, token and relay numbers are three types, so that one cannot be passed where another belongs. Each counts from 1;
