@@ -1,2 +1,10 @@
 pub mod Lists
 pub mod Bytes
+pub mod BoolLaws
+pub mod SearchLaws
+pub mod TestLaws
+pub mod RowLaws
+pub mod SumLaws
+pub mod ModifyLaws
+pub mod BitLaws
+pub mod ByteLaws
