@@ -14,3 +14,4 @@ pub mod Advance
 pub mod SessionCalls
 pub mod Commit
 pub mod Calls
+pub mod SoundParts
