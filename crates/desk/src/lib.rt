@@ -1,0 +1,3 @@
+// The calls on the desk.
+mod answers;
+mod relays;
