@@ -1,1 +1,4 @@
 pub mod Text
+pub mod Scan
+pub mod PathLaws
+pub mod TextLaws
