@@ -1,0 +1,52 @@
+-- Laws of texts: a text filled byte by byte, and what it holds. Assumes nothing.
+use mathlib.Core.Path.{_≡_, refl, ap, sym, _∙_}
+use mathlib.Core.List.{List, [], _∷_, _++_}
+use Prim.Native.Nat.{ℕ, zero, suc, min, _+_, _-_, _<_, _≤_}
+use native.Mathlib.Nat.{min-comm, min-zero, min-le-right, suc-min-suc}
+use native.Mathlib.Numerals.{add-one}
+use native.Mathlib.Omega.{arith}
+use lib.ListN.{length, take, getD, set, replicate, length-take}
+use lib.Seq.{take-nil, take-suc, take-at, length-take-le, set-at, append-snoc}
+use Rattle.text.specs.declared.Text.{Text}
+use Rattle.text.specs.Text.{pathLimit, textBytes, toText}
+
+-- the bytes t, padded with zeros to w bytes
+abbrev pub padded : ℕ → List ℕ → List ℕ
+padded w t = t ++ replicate (w - length t) 0
+
+-- one more byte
+pub padded-more : (w : ℕ) (s : List ℕ) (i : ℕ) → i < length s → i < w → set (padded w (take i s)) i (getD s i 0) ≡ padded w (take (i + 1) s)
+padded-more w s i h k =
+    let n : length (take i s) ≡ i = length-take-le i s (omega arith) in
+    let m : length (take (suc i) s) ≡ suc i = length-take-le (suc i) s (omega arith) in
+    let z : w - i ≡ suc (w - suc i) = omega arith in
+    rw (add-one, n, m, z) (set-at (take i s) 0 (replicate (w - suc i) 0) (getD s i 0) i n ∙ rw (take-suc s i 0 h) (sym (append-snoc (take i s) (getD s i 0) (replicate (w - suc i) 0))))
+
+-- no more than all
+pub take-min : (m : ℕ) (l : List ℕ) → take (min (length l) m) l ≡ take m l
+take-min m [] = take-nil (min 0 m) ∙ sym (take-nil m)
+take-min zero (x ∷ xs) = rw (min-zero (suc (length xs)))
+take-min (suc m) (x ∷ xs) = rw (suc-min-suc (length xs) m) (ap (λ ys. x ∷ ys) (take-min m xs))
+
+-- a part of the list l that is as long as take m l
+module _ (m n : ℕ) (l : List ℕ) (e : n ≡ length (take m l)) where
+  pub part-within : n ≤ length l
+  part-within = omega (arith, length-take m l, min-le-right m (length l))
+
+  pub part-bytes : take n l ≡ take m l
+  part-bytes = ap (λ (k : ℕ). take k l) (e ∙ length-take m l ∙ min-comm m (length l)) ∙ take-min m l
+
+  pub part-length : n ≡ length (take n l)
+  part-length = e ∙ ap length (sym part-bytes)
+
+-- a text filled with all that it takes of s
+pub text-filled : (s : List ℕ) (n : ℕ) (b : List ℕ) → n ≡ min (length s) pathLimit → b ≡ padded pathLimit (take n s)
+    → record { bytes = b; len = n } ≡ toText (take pathLimit s)
+text-filled s n b e f =
+    let q : take n s ≡ take pathLimit s = ap (λ (m : ℕ). take m s) e ∙ take-min pathLimit s in
+    let l : n ≡ length (take pathLimit s) = e ∙ min-comm (length s) pathLimit ∙ sym (length-take pathLimit s) in
+    λ i. record { bytes = (f ∙ ap (padded pathLimit) q) i; len = l i }
+
+-- a text holds what it was made of
+pub text-bytes : (s : List ℕ) → length s ≤ pathLimit → textBytes (toText s) ≡ s
+text-bytes s h = take-at s (replicate (pathLimit - length s) 0) (length s) refl
