@@ -1,6 +1,8 @@
 // Register and heartbeat, on the tables.
 ghost use mathlib.Core.Path.{_≡_};
-ghost use Prim.Native.Nat.{_<_};
+ghost use Prim.Native.Nat.{_<_, _-_};
+ghost use lib.Dec.{eqb};
+ghost use Rattle.rules.specs.Limits.{fullHealth};
 ghost use lib.ListN.{set, getD};
 ghost use Rattle.rows.specs.Blank.{blankRelay};
 ghost use Rattle.lists.specs.Lists.{hit};
@@ -8,17 +10,17 @@ ghost use Rattle.rules.specs.Tables.{withRelays, withLastRelay};
 ghost use Rattle.rules.specs.RelayCalls.{registerRule, registerIn, heartbeatRule, heartbeatIn};
 use super::answers::accept;
 use super::answers::refuse;
+use lists::Found;
 use rows::find_relay;
 use rows::free_relay;
-use lists::Found;
-use rules::numbers::BAD;
-use rules::numbers::NO_RELAY;
-use rules::numbers::ROOM;
-use rules::numbers::SPENT;
 use rules::Relay;
 use rules::RelayNo;
 use rules::Tables;
 use rules::TablesOutcome;
+use rules::numbers::BAD;
+use rules::numbers::NO_RELAY;
+use rules::numbers::ROOM;
+use rules::numbers::SPENT;
 
 // One row of the relay table replaced.
 fn with_relay(t: Tables, i: usize, r: Relay) -> Tables
@@ -65,8 +67,8 @@ pub(crate) fn register_on(t: Tables, capacity: u64) -> TablesOutcome
 }
 
 // Health 0: 100 blocks or more since the last heartbeat.
-fn is_silent(clock: u64, beat: u64) -> bool
-    ensures { λ r. ⌜ r ≡ silent clock beat ⌝ }
+fn no_health(clock: u64, beat: u64) -> bool
+    ensures { λ r. ⌜ r ≡ eqb (fullHealth - (clock - beat)) 0 ⌝ }
 {
     if clock < beat {
         return false;
@@ -80,7 +82,7 @@ fn beat_at(t: Tables, i: usize) -> TablesOutcome
 {
     let rows = t.relays;
     let mut row = rows[i];
-    if is_silent(t.clock, row.beat) {
+    if no_health(t.clock, row.beat) {
         return refuse(t, NO_RELAY);
     }
     row.beat = t.clock;
