@@ -1,1 +1,3 @@
 pub mod HealthLaws
+pub mod FindLaws
+pub mod TextLaws
