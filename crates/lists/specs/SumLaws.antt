@@ -23,6 +23,14 @@ module _ {A : Type 0} (p : A → Bool) (l : List A) where
       let q : countIf p (drop i l) ≡ bit b + countIf p (drop (i + 1) l) = rw (add-one, drop-cons l i d, t) in
       omega arith
 
+  pub count-here : {b : Bool} (d : A) (i n : ℕ) → i < length l → n + countIf p (drop i l) ≡ countIf p l → b ≡ p (getD l i d) → b ≡ true
+      → n + 1 + countIf p (drop (i + 1) l) ≡ countIf p l
+  count-here d i n h e t u = let q = count-more d i n h e t in rw u at q
+
+  pub count-on : {b : Bool} (d : A) (i n : ℕ) → i < length l → n + countIf p (drop i l) ≡ countIf p l → b ≡ p (getD l i d) → b ≡ false
+      → n + countIf p (drop (i + 1) l) ≡ countIf p l
+  count-on d i n h e t u = let q = rw u at (count-more d i n h e t) in omega arith
+
   pub count-end : (i n : ℕ) → length l ≤ i → n + countIf p (drop i l) ≡ countIf p l → n ≡ countIf p l
   unfolding countIf
   count-end i n h e = let q : countIf p (drop i l) ≡ 0 = rw (drop-of-length-le l h) in omega arith

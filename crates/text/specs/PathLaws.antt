@@ -1,13 +1,12 @@
 -- What is known of a path's bytes from some place on is what their parts say; and the two cases of a prefix. Assumes nothing.
-use mathlib.Core.Path.{_≡_, refl, ap, sym, _∙_}
-use mathlib.Core.Bool.{Bool, true, false, _&&_, _||_, cond, not, and-true, and-false}
+use mathlib.Core.Path.{_≡_, refl, ap, sym}
+use mathlib.Core.Bool.{Bool, true, false, _&&_, _||_, cond, not}
 use mathlib.Core.List.{List, [], _∷_}
-use Prim.Native.Nat.{ℕ, _-_, _+_, _<_, _≤_}
+use Prim.Native.Nat.{ℕ, _-_, _<_, _≤_}
 use native.Mathlib.Omega.{arith}
 use lib.Dec.{eqb}
 use lib.ListN.{length, drop, getD, drop-of-length-le}
 use lib.Seq.{drop-cons}
-use native.Mathlib.Numerals.{add-one}
 use Rattle.lists.specs.Lists.{allOf}
 use Rattle.lists.specs.Bytes.{sameBytes}
 use Rattle.text.specs.Text.{slash, dot, ontoFirst, parts, isPart, isPrefix, isPathAndSlash}

@@ -1,6 +1,5 @@
 -- How the code reads a path: from its last byte to its first, knowing what the first part is and whether the parts after it pass. Assumes nothing.
 use mathlib.Core.Bool.{Bool, true, false, _&&_, cond}
-use mathlib.Core.List.{List, [], _∷_}
 use Prim.Native.Nat.{ℕ}
 use lib.Dec.{eqb}
 use Rattle.text.specs.Text.{slash, dot}

@@ -1,11 +1,9 @@
 use native.Mathlib.Omega.{arith}
-use mathlib.Core.Path.{sym, _∙_}
+use mathlib.Core.Path.{sym}
 use borrow.Author.Tests.{lt-leb, le-leb, eq-eqb, ne-eqb}
 use Rattle.text.specs.Text.{isPathAndSlash}
 use Rattle.text.specs.PathLaws.{prefix-none, prefix-some}
 use lib.Seq.{length-take-le}
-use native.Mathlib.Omega.{arith}
-use mathlib.Core.Path.{sym, _∙_}
 use borrow.Author.Needs.{needs}
 use Rattle.text.proofs.path.is_prefix.Statement.{statement}
 use Rattle.text.proofs.path.is_prefix.Tie as tie
