@@ -14,7 +14,8 @@ pub rows-length : (X Y : Type 0) (f : X → Y) (l : List X) (n : ℕ) → length
 rows-length X Y f l n e = sym (length-map l f) ∙ e
 
 -- two functions that agree on every row
-pub map-agree : {A B : Type 0} (f g : A → B) (l : List A) (d : A) → ((j : ℕ) → j < length l → f (getD l j d) ≡ g (getD l j d)) → map f l ≡ map g l
+pub map-agree : {A B : Type 0} (f g : A → B) (l : List A) (d : A) → ((j : ℕ) → j < length l → f (getD l j d) ≡ g (getD l j d))
+    → map f l ≡ map g l
 map-agree f g [] d e = refl
 map-agree f g (x ∷ xs) d e = ap₂ _∷_ (e 0 (omega arith)) (map-agree f g xs d (λ j h. e (suc j) (omega arith)))
 

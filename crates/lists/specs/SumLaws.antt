@@ -55,12 +55,14 @@ count-le p [] = omega arith
 count-le p (x ∷ xs) = omega (arith, count-le p xs, bit-lt (p x))
 
 -- a sum is monotone in what is summed, and bounded by a bound of each row
-pub sum-mono : {A : Type 0} (f g : A → ℕ) (l : List A) (d : A) → ((j : ℕ) → j < length l → f (getD l j d) ≤ g (getD l j d)) → sumOf f l ≤ sumOf g l
+pub sum-mono : {A : Type 0} (f g : A → ℕ) (l : List A) (d : A) → ((j : ℕ) → j < length l → f (getD l j d) ≤ g (getD l j d))
+    → sumOf f l ≤ sumOf g l
 unfolding sumOf
 sum-mono f g [] d e = omega arith
 sum-mono f g (x ∷ xs) d e = omega (arith, e 0 (omega arith), sum-mono f g xs d (λ j h. e (suc j) (omega arith)))
 
-pub sum-le : {A : Type 0} (f : A → ℕ) (m : ℕ) (l : List A) (d : A) → ((j : ℕ) → j < length l → f (getD l j d) ≤ m) → sumOf f l ≤ length l * m
+pub sum-le : {A : Type 0} (f : A → ℕ) (m : ℕ) (l : List A) (d : A) → ((j : ℕ) → j < length l → f (getD l j d) ≤ m)
+    → sumOf f l ≤ length l * m
 unfolding sumOf
 sum-le f m [] d e = omega arith
 sum-le f m (x ∷ xs) d e = rw (suc-mul (length xs) m) (omega (arith, e 0 (omega arith), sum-le f m xs d (λ j h. e (suc j) (omega arith))))
@@ -132,7 +134,8 @@ module _ {A : Type 0} where
   sum-keep f g p [] e = refl
   sum-keep f g p (x ∷ xs) e = sum-cond f (p x) x (keep p xs) ∙ rw (e x, sum-keep f g p xs e)
 
-  pub sum-split : (f : A → ℕ) (p q : A → Bool) (l : List A) → ((x : A) → q x ≡ not (p x)) → sumOf f (keep p l) + sumOf f (keep q l) ≡ sumOf f l
+  pub sum-split : (f : A → ℕ) (p q : A → Bool) (l : List A) → ((x : A) → q x ≡ not (p x))
+      → sumOf f (keep p l) + sumOf f (keep q l) ≡ sumOf f l
   unfolding keep sumOf
   sum-split f p q [] e = refl
   sum-split f p q (x ∷ xs) e =

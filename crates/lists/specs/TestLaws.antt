@@ -152,16 +152,19 @@ module _ {A : Type 0} (p : A → Bool) where
 
 -- no row clashes with a later one: of each two indexes, and back
 module _ {A : Type 0} (clash : A → A → Bool) where
-  pub clash-at : (l : List A) → noClash clash l ≡ true → (i j : ℕ) → i < j → j < length l → (d : A) → clash (getD l i d) (getD l j d) ≡ false
+  pub clash-at : (l : List A) → noClash clash l ≡ true → (i j : ℕ) → i < j → j < length l → (d : A)
+      → clash (getD l i d) (getD l j d) ≡ false
   unfolding noClash
   clash-at [] e i j h k d = absurd (not-suc-le-zero k)
   clash-at (x ∷ xs) e i zero h k d = absurd (not-suc-le-zero h)
   clash-at (x ∷ xs) e zero (suc j) h k d =
-      none-at (clash x) xs (not-true (anyOf (clash x) xs) (and-left (not (anyOf (clash x) xs)) (noClash clash xs) e)) j (le-of-suc-le-suc k) d
+      let n = not-true (anyOf (clash x) xs) (and-left (not (anyOf (clash x) xs)) (noClash clash xs) e) in
+      none-at (clash x) xs n j (le-of-suc-le-suc k) d
   clash-at (x ∷ xs) e (suc i) (suc j) h k d =
       clash-at xs (and-right (not (anyOf (clash x) xs)) (noClash clash xs) e) i j (le-of-suc-le-suc h) (le-of-suc-le-suc k) d
 
-  pub at-clash : (l : List A) (d : A) → ((i j : ℕ) → i < j → j < length l → clash (getD l i d) (getD l j d) ≡ false) → noClash clash l ≡ true
+  pub at-clash : (l : List A) (d : A) → ((i j : ℕ) → i < j → j < length l → clash (getD l i d) (getD l j d) ≡ false)
+      → noClash clash l ≡ true
   unfolding noClash
   at-clash [] d f = refl
   at-clash (x ∷ xs) d f =

@@ -53,7 +53,8 @@ part-kind (x ∷ y ∷ []) = two-bytes (eqb x dot) (eqb y dot)
 part-kind (x ∷ y ∷ z ∷ p) = more-bytes (eqb x dot) (eqb y dot) (eqb z dot) (kindOf p)
 
 -- one more byte at the front
-known-onto : (b : ℕ) (ps : List (List ℕ)) → known (ontoFirst b ps) ≡ record { first = longer (eqb b dot) (known ps .first); rest = known ps .rest }
+known-onto : (b : ℕ) (ps : List (List ℕ))
+    → known (ontoFirst b ps) ≡ record { first = longer (eqb b dot) (known ps .first); rest = known ps .rest }
 unfolding known kindOf ontoFirst allOf
 known-onto b [] = refl
 known-onto b (p ∷ ps) = refl
@@ -80,7 +81,9 @@ known-passes (b ∷ bs) = passes-cond (eqb b slash) b (parts bs)
 -- one more byte at the front
 known-cond : (t : Bool) (b : ℕ) (ps : List (List ℕ)) → passes (known ps) ≡ allOf isPart ps
     → known (cond t ([] ∷ ps) (ontoFirst b ps))
-    ≡ cond t (record { first = Empty; rest = passes (known ps) }) (record { first = longer (eqb b dot) (known ps .first); rest = known ps .rest })
+    ≡ cond t
+    (record { first = Empty; rest = passes (known ps) })
+    (record { first = longer (eqb b dot) (known ps .first); rest = known ps .rest })
 unfolding known kindOf
 known-cond true b ps e = ap (λ (r : Bool). record { first = Empty; rest = r }) (sym e)
 known-cond false b ps e = known-onto b ps

@@ -13,7 +13,8 @@ use lib.Seq.{take-nil, take-suc, take-at, length-take-le, set-at, append-snoc}
 use Rattle.lists.specs.Lists.{allOf}
 use Rattle.lists.specs.BoolLaws.{and-left, and-right}
 use Rattle.text.specs.declared.Text.{Text}
-use Rattle.text.specs.Text.{pathLimit, nameLimit, slash, isPathByte, isPart, parts, isPath, butLast, isPathAndSlash, isPrefix, isNameByte, isName, textBytes, toText, holds}
+use Rattle.text.specs.Text.{pathLimit, nameLimit, slash, isPathByte, isPart, parts, isPath, butLast}
+use Rattle.text.specs.Text.{isPathAndSlash, isPrefix, isNameByte, isName, textBytes, toText, holds}
 
 -- the bytes t, padded with zeros to w bytes
 abbrev pub padded : ℕ → List ℕ → List ℕ
@@ -25,7 +26,9 @@ padded-more w s i h k =
     let n : length (take i s) ≡ i = length-take-le i s (omega arith) in
     let m : length (take (suc i) s) ≡ suc i = length-take-le (suc i) s (omega arith) in
     let z : w - i ≡ suc (w - suc i) = omega arith in
-    rw (add-one, n, m, z) (set-at (take i s) 0 (replicate (w - suc i) 0) (getD s i 0) i n ∙ rw (take-suc s i 0 h) (sym (append-snoc (take i s) (getD s i 0) (replicate (w - suc i) 0))))
+    let rest : List ℕ = replicate (w - suc i) 0 in
+    rw (add-one, n, m, z)
+    (set-at (take i s) 0 rest (getD s i 0) i n ∙ rw (take-suc s i 0 h) (sym (append-snoc (take i s) (getD s i 0) rest)))
 
 -- no more than all
 pub take-min : (m : ℕ) (l : List ℕ) → take (min (length l) m) l ≡ take m l

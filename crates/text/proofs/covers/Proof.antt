@@ -1,3 +1,4 @@
+-- `covers` meets its contract: the part of the array that is lent holds the text's bytes. Assumes nothing.
 use Rattle.text.specs.TextLaws.{part-within, part-bytes, part-length}
 use borrow.Author.Needs.{needs}
 use Rattle.text.proofs.covers.Statement.{statement}
@@ -16,7 +17,9 @@ starts-requires : tie.Need-starts-requires
 starts-requires c κs = search needs
 
 returns : tie.Need-returns
-returns c = rw (← part-bytes (c .before .before .before .before .before .args .prefix) (c .before .before .before .text-len .ensures)) (c .starts .ensures)
+returns c =
+    let d = c .before .before .before in
+    rw (← part-bytes (d .before .before .args .prefix) (d .text-len .ensures)) (c .starts .ensures)
 
 pub covers-spec : {M : Type 1} → statement M
 covers-spec =

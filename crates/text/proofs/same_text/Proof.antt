@@ -1,3 +1,4 @@
+-- `same_text` meets its contract: the part of the array that is lent holds the text's bytes. Assumes nothing.
 use Rattle.text.specs.TextLaws.{part-within, part-bytes, part-length}
 use borrow.Author.Needs.{needs}
 use Rattle.text.proofs.same_text.Statement.{statement}
@@ -16,7 +17,9 @@ same-requires : tie.Need-same-requires
 same-requires c κs = search needs
 
 returns : tie.Need-returns
-returns c = rw (← part-bytes (c .before .before .before .before .before .args .t) (c .before .before .before .text-len .ensures)) (c .same .ensures)
+returns c =
+    let d = c .before .before .before in
+    rw (← part-bytes (d .before .before .args .t) (d .text-len .ensures)) (c .same .ensures)
 
 pub same-text-spec : {M : Type 1} → statement M
 same-text-spec =

@@ -1,3 +1,4 @@
+-- `same_texts` meets its contract: the part of the array that is lent holds the text's bytes. Assumes nothing.
 use Rattle.text.specs.TextLaws.{part-within, part-bytes, part-length}
 use borrow.Author.Needs.{needs}
 use Rattle.text.proofs.same_texts.Statement.{statement}
@@ -16,7 +17,9 @@ same-text-requires : tie.Need-same-text-requires
 same-text-requires c κs = search needs
 
 returns : tie.Need-returns
-returns c = rw (← part-bytes (c .before .before .before .before .args .b) (c .before .before .before .text-len .ensures)) (c .same-text .ensures)
+returns c =
+    let d = c .before .before .before in
+    rw (← part-bytes (d .before .args .b) (d .text-len .ensures)) (c .same-text .ensures)
 
 pub same-texts-spec : {M : Type 1} → statement M
 same-texts-spec =

@@ -1,3 +1,4 @@
+-- `bytes::starts` meets its contract: at each byte the rest of both slices decides. Assumes nothing.
 use native.Mathlib.Omega.{arith}
 use mathlib.Core.Path.{_≡_, refl, sym, _∙_}
 use Prim.Native.Nat.{_≤_, _-_}
@@ -28,8 +29,10 @@ shared-slice-read-if2-2 c = omega arith
 
 returns-2 : tie.Need-returns-2 Inv-loop μ-loop
 returns-2 c =
-    let w = c .before .before .before .before .loop in
-    sym (w .inv .2 ∙ starts-differ (c .before .before .before .before .before .before .args .prefix .now) (c .before .before .before .before .before .before .args .s .now) (w .i) (omega arith) (omega arith) (c .if2 .taken))
+    let d = c .before .before .before .before in
+    let prefix = d .before .before .args .prefix .now in
+    let s = d .before .before .args .s .now in
+    sym (d .loop .inv .2 ∙ starts-differ prefix s (d .loop .i) (omega arith) (omega arith) (c .if2 .taken))
 
 add-i : tie.Need-add-i Inv-loop μ-loop
 add-i c = omega arith
@@ -39,11 +42,17 @@ loop-less c = omega arith
 
 loop-again : tie.Need-loop-again Inv-loop μ-loop
 loop-again c =
-    let w = c .before .before .before .before .loop in
-    (omega arith, omega arith, w .inv .2 ∙ starts-on (c .before .before .before .before .before .before .args .prefix .now) (c .before .before .before .before .before .before .args .s .now) (w .i) (omega arith) (omega arith) (c .if2 .left))
+    let d = c .before .before .before .before in
+    let prefix = d .before .before .args .prefix .now in
+    let s = d .before .before .args .s .now in
+    (omega arith, omega arith, d .loop .inv .2 ∙ starts-on prefix s (d .loop .i) (omega arith) (omega arith) (c .if2 .left))
 
 returns-3 : tie.Need-returns-3 Inv-loop μ-loop
-returns-3 c = let w = c .before .loop in sym (w .inv .2 ∙ starts-end (c .before .before .before .args .prefix .now) (c .before .before .before .args .s .now) (w .i) (omega arith))
+returns-3 c =
+    let d = c .before in
+    let prefix = d .before .before .args .prefix .now in
+    let s = d .before .before .args .s .now in
+    sym (d .loop .inv .2 ∙ starts-end prefix s (d .loop .i) (omega arith))
 
 pub starts-spec : {M : Type 1} → statement M
 starts-spec =

@@ -1,3 +1,4 @@
+-- `name::is_letter_or_digit` meets its contract: each test that led to a return is one of the rule's. Assumes nothing.
 use borrow.Author.Needs.{needs}
 use Rattle.text.proofs.name.is_letter_or_digit.Statement.{statement}
 use Rattle.text.proofs.name.is_letter_or_digit.Tie as tie

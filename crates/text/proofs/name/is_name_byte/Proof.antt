@@ -1,3 +1,4 @@
+-- `name::is_name_byte` meets its contract: each test that led to a return is one of the rule's. Assumes nothing.
 use borrow.Author.Tests.{eq-eqb, ne-eqb}
 use borrow.Author.Needs.{needs}
 use Rattle.text.proofs.name.is_name_byte.Statement.{statement}
