@@ -43,7 +43,7 @@ unfolding firstAt firstRow
 first-index p k [] = refl
 first-index p k (x ∷ xs) = rw (first-index p (suc k) xs) (sym (index-cond (p x) k x (firstRow p (suc k) xs)))
 
--- nothing is found and something too
+-- a search does not both miss and hit
 pub miss-hit : {A : Type 0} {h : Hit A} {i : ℕ} {x : A} → h ≡ miss → h ≡ hit i x → ⊥
 miss-hit {h = h} e f = let z : _≡_ {A = ℕ} 0 1 = cc in omega arith
 

@@ -79,7 +79,7 @@ both-cond : (b : Bool) (m : ℕ) → cond b m 0 + cond (not b) m 0 ≡ m
 both-cond true m = omega arith
 both-cond false m = omega arith
 
--- of one list after another
+-- of two lists joined
 module _ {A : Type 0} where
   pub sum-append : (f : A → ℕ) (l m : List A) → sumOf f (l ++ m) ≡ sumOf f l + sumOf f m
   unfolding sumOf
@@ -91,7 +91,7 @@ module _ {A : Type 0} where
   count-append p [] m = omega arith
   count-append p (x ∷ xs) m = omega (arith, count-append p xs m)
 
-  -- of a row said again and again
+  -- of one row repeated
   pub sum-replicate : (f : A → ℕ) (n : ℕ) (x : A) → sumOf f (replicate n x) ≡ n * f x
   unfolding sumOf
   sum-replicate f zero x = sym (zero-mul (f x))
@@ -148,7 +148,7 @@ module _ {A : Type 0} where
         sum-split f p q xs e,
       ))
 
--- of one list of numbers after another
+-- of two lists of numbers joined
 pub total-append : (l m : List ℕ) → total (l ++ m) ≡ total l + total m
 unfolding total
 total-append [] m = omega arith

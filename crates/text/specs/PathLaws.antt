@@ -2,7 +2,7 @@
 use mathlib.Core.Path.{_≡_, refl, ap, sym}
 use mathlib.Core.Bool.{Bool, true, false, _&&_, _||_, cond, not}
 use mathlib.Core.List.{List, [], _∷_}
-use Prim.Native.Nat.{ℕ, _-_, _<_, _≤_}
+use Prim.Native.Nat.{ℕ, suc, _-_, _<_, _≤_}
 use native.Mathlib.Omega.{arith}
 use lib.Dec.{eqb}
 use lib.ListN.{length, drop, getD, drop-of-length-le}
@@ -100,7 +100,7 @@ known-none s i h = rw (drop-of-length-le s h)
 pub known-more : {k : Scan} (s : List ℕ) (i : ℕ) → 0 < i → i ≤ length s → k ≡ known (parts (drop i s))
     → known (parts (drop (i - 1) s)) ≡ scanByte (getD s (i - 1) 0) k
 known-more {k} s i h l e =
-    let q : Prim.Native.Nat.suc (i - 1) ≡ i = omega arith in
+    let q : suc (i - 1) ≡ i = omega arith in
     rw (drop-cons s (i - 1) 0 (omega arith), q, e) (known-byte (getD s (i - 1) 0) (drop i s))
 
 -- a prefix is empty or not

@@ -37,7 +37,7 @@ fn is_name_byte(b: u8) -> bool
     b == b'.'
 }
 
-// Whether every byte is one that names have.
+// Whether names have every byte of s.
 fn name_bytes(s: &[u8]) -> bool
     ensures { λ r. ⌜ r ≡ allOf isNameByte (now (s .entry)) ⌝ }
 {
@@ -51,6 +51,7 @@ fn name_bytes(s: &[u8]) -> bool
     true
 }
 
+// Whether s is a name.
 pub fn is_name(s: &[u8]) -> bool
     ensures { λ r. ⌜ r ≡ isName (now (s .entry)) ⌝ }
 {
