@@ -6,8 +6,7 @@ use Prim.Native.Nat.{ℕ}
 use Prim.Native.Char.{code}
 use Prim.Native.String.{String, [] as done, _∷_ as _then_}
 use lib.ListN.{replicate}
-use Rattle.lists.specs.Lists.{allOf}
-use Rattle.lists.specs.Bytes.{sameBytes, startsWith}
+use Rattle.lists.specs.Bytes.{startsWith}
 use Rattle.text.specs.Text.{isPath, isPrefix, isName, covers}
 
 -- the bytes of a quoted text

@@ -1,13 +1,12 @@
 -- What is known of a path's bytes from some place on is what their parts say; and the two cases of a prefix. Assumes nothing.
-use mathlib.Core.Path.{_≡_, refl, ap, sym, _∙_}
-use mathlib.Core.Bool.{Bool, true, false, _&&_, _||_, cond, not, and-true, and-false}
+use mathlib.Core.Path.{_≡_, refl, ap, sym}
+use mathlib.Core.Bool.{Bool, true, false, _&&_, _||_, cond, not}
 use mathlib.Core.List.{List, [], _∷_}
-use Prim.Native.Nat.{ℕ, _-_, _+_, _<_, _≤_}
+use Prim.Native.Nat.{ℕ, suc, _-_, _<_, _≤_}
 use native.Mathlib.Omega.{arith}
 use lib.Dec.{eqb}
 use lib.ListN.{length, drop, getD, drop-of-length-le}
 use lib.Seq.{drop-cons}
-use native.Mathlib.Numerals.{add-one}
 use Rattle.lists.specs.Lists.{allOf}
 use Rattle.lists.specs.Bytes.{sameBytes}
 use Rattle.text.specs.Text.{slash, dot, ontoFirst, parts, isPart, isPrefix, isPathAndSlash}
@@ -54,7 +53,8 @@ part-kind (x ∷ y ∷ []) = two-bytes (eqb x dot) (eqb y dot)
 part-kind (x ∷ y ∷ z ∷ p) = more-bytes (eqb x dot) (eqb y dot) (eqb z dot) (kindOf p)
 
 -- one more byte at the front
-known-onto : (b : ℕ) (ps : List (List ℕ)) → known (ontoFirst b ps) ≡ record { first = longer (eqb b dot) (known ps .first); rest = known ps .rest }
+known-onto : (b : ℕ) (ps : List (List ℕ))
+    → known (ontoFirst b ps) ≡ record { first = longer (eqb b dot) (known ps .first); rest = known ps .rest }
 unfolding known kindOf ontoFirst allOf
 known-onto b [] = refl
 known-onto b (p ∷ ps) = refl
@@ -81,7 +81,9 @@ known-passes (b ∷ bs) = passes-cond (eqb b slash) b (parts bs)
 -- one more byte at the front
 known-cond : (t : Bool) (b : ℕ) (ps : List (List ℕ)) → passes (known ps) ≡ allOf isPart ps
     → known (cond t ([] ∷ ps) (ontoFirst b ps))
-    ≡ cond t (record { first = Empty; rest = passes (known ps) }) (record { first = longer (eqb b dot) (known ps .first); rest = known ps .rest })
+    ≡ cond t
+    (record { first = Empty; rest = passes (known ps) })
+    (record { first = longer (eqb b dot) (known ps .first); rest = known ps .rest })
 unfolding known kindOf
 known-cond true b ps e = ap (λ (r : Bool). record { first = Empty; rest = r }) (sym e)
 known-cond false b ps e = known-onto b ps
@@ -98,7 +100,7 @@ known-none s i h = rw (drop-of-length-le s h)
 pub known-more : {k : Scan} (s : List ℕ) (i : ℕ) → 0 < i → i ≤ length s → k ≡ known (parts (drop i s))
     → known (parts (drop (i - 1) s)) ≡ scanByte (getD s (i - 1) 0) k
 known-more {k} s i h l e =
-    let q : Prim.Native.Nat.suc (i - 1) ≡ i = omega arith in
+    let q : suc (i - 1) ≡ i = omega arith in
     rw (drop-cons s (i - 1) 0 (omega arith), q, e) (known-byte (getD s (i - 1) 0) (drop i s))
 
 -- a prefix is empty or not

@@ -1,6 +1,6 @@
--- How the code reads a path: from its last byte to its first, knowing what the first part is and whether the parts after it pass. Assumes nothing.
+-- How a path is read, from its last byte to its first: what is known of the parts of the bytes read so far. No rule stands here: PathLaws
+-- shows that it comes to the rule of parts. Assumes nothing.
 use mathlib.Core.Bool.{Bool, true, false, _&&_, cond}
-use mathlib.Core.List.{List, [], _∷_}
 use Prim.Native.Nat.{ℕ}
 use lib.Dec.{eqb}
 use Rattle.text.specs.Text.{slash, dot}

@@ -19,7 +19,7 @@ pub const NAME_LIMIT: usize = 64;
 // A path, a prefix or a name: the first `len` bytes. The bytes after them are not read, and are
 // zeros in every text that this crate makes.
 pub struct Text {
-    pub bytes: [u8; 128],
+    pub bytes: [u8; PATH_LIMIT],
     pub len: usize,
 }
 
@@ -42,7 +42,7 @@ pub fn to_text(s: &[u8]) -> Text
     ensures { λ r. ⌜ r ≡ toText (take pathLimit (now (s .entry))) ⌝ }
 {
     let n = capped(s.len());
-    let mut bytes = [0u8; 128];
+    let mut bytes = [0u8; PATH_LIMIT];
     let mut i: usize = 0;
     while i < n {
         bytes[i] = s[i];
@@ -56,7 +56,7 @@ pub fn empty_text() -> Text
     ensures { λ r. ⌜ r ≡ toText [] ⌝ }
 {
     Text {
-        bytes: [0u8; 128],
+        bytes: [0u8; PATH_LIMIT],
         len: 0,
     }
 }

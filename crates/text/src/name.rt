@@ -1,15 +1,16 @@
 // The rule of names.
 ghost use mathlib.Core.Path.{_≡_};
+ghost use mathlib.Core.Bool.{_||_};
 ghost use Rattle.lists.specs.Lists.{allOf};
-ghost use Rattle.text.specs.Text.{isNameByte, isName, holds};
+ghost use Rattle.text.specs.Text.{within, isNameByte, isName, holds};
 use crate::NAME_LIMIT;
 use crate::PATH_LIMIT;
 use crate::Text;
 use crate::bytes::within;
 
-// a-z A-Z 0-9 _ - .
-fn is_name_byte(b: u8) -> bool
-    ensures { λ r. ⌜ r ≡ isNameByte b ⌝ }
+// a-z A-Z 0-9
+fn is_letter_or_digit(b: u8) -> bool
+    ensures { λ r. ⌜ r ≡ (within 97 122 b || within 65 90 b || within 48 57 b) ⌝ }
 {
     if within(b'a', b'z', b) {
         return true;
@@ -17,7 +18,14 @@ fn is_name_byte(b: u8) -> bool
     if within(b'A', b'Z', b) {
         return true;
     }
-    if within(b'0', b'9', b) {
+    within(b'0', b'9', b)
+}
+
+// a-z A-Z 0-9 _ - .
+fn is_name_byte(b: u8) -> bool
+    ensures { λ r. ⌜ r ≡ isNameByte b ⌝ }
+{
+    if is_letter_or_digit(b) {
         return true;
     }
     if b == b'_' {
@@ -29,7 +37,7 @@ fn is_name_byte(b: u8) -> bool
     b == b'.'
 }
 
-// Whether every byte is one that names have.
+// Whether names have every byte of s.
 fn name_bytes(s: &[u8]) -> bool
     ensures { λ r. ⌜ r ≡ allOf isNameByte (now (s .entry)) ⌝ }
 {
@@ -43,6 +51,7 @@ fn name_bytes(s: &[u8]) -> bool
     true
 }
 
+// Whether s is a name.
 pub fn is_name(s: &[u8]) -> bool
     ensures { λ r. ⌜ r ≡ isName (now (s .entry)) ⌝ }
 {

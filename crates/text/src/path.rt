@@ -1,4 +1,5 @@
-// The rules of paths and prefixes.
+// The rules of paths and prefixes. A path is read from its last byte to its first, so that each part is
+// known whole when the slash before it is met.
 ghost use mathlib.Core.Path.{_≡_};
 ghost use Rattle.lists.specs.Lists.{allOf};
 ghost use Rattle.text.specs.Text.{isPathByte, isPart, parts, isPath, isPrefix, holds};
@@ -95,13 +96,14 @@ fn parts_pass(s: &[u8]) -> bool
     passes(k)
 }
 
+// Whether paths have this byte.
 fn is_path_byte(b: u8) -> bool
     ensures { λ r. ⌜ r ≡ isPathByte b ⌝ }
 {
     within(0x21, 0x7e, b)
 }
 
-// Whether every byte is one that paths have.
+// Whether paths have every byte of s.
 fn path_bytes(s: &[u8]) -> bool
     ensures { λ r. ⌜ r ≡ allOf isPathByte (now (s .entry)) ⌝ }
 {
@@ -115,6 +117,7 @@ fn path_bytes(s: &[u8]) -> bool
     true
 }
 
+// Whether s is a path.
 pub fn is_path(s: &[u8]) -> bool
     ensures { λ r. ⌜ r ≡ isPath (now (s .entry)) ⌝ }
 {
@@ -130,6 +133,7 @@ pub fn is_path(s: &[u8]) -> bool
     parts_pass(s)
 }
 
+// Whether s is a prefix: empty, or a path and a slash.
 pub fn is_prefix(s: &[u8]) -> bool
     ensures { λ r. ⌜ r ≡ isPrefix (now (s .entry)) ⌝ }
 {
@@ -159,6 +163,7 @@ pub fn holds_path(t: Text) -> bool
     is_path(&b[..n])
 }
 
+// The same of a prefix.
 pub fn holds_prefix(t: Text) -> bool
     ensures { λ r. ⌜ r ≡ holds isPrefix t ⌝ }
 {

@@ -1,8 +1,4 @@
-use mathlib.Core.Path.{ap, _∙_}
-use mathlib.Core.List.{List}
-use Prim.Native.Nat.{ℕ}
-use Rattle.lists.specs.Bytes.{startsWith}
-use Rattle.text.specs.Text.{textBytes}
+-- `covers` meets its contract: the part of the array that is lent holds the text's bytes. Assumes nothing.
 use Rattle.text.specs.TextLaws.{part-within, part-bytes, part-length}
 use borrow.Author.Needs.{needs}
 use Rattle.text.proofs.covers.Statement.{statement}
@@ -12,16 +8,18 @@ text-len-requires : tie.Need-text-len-requires
 text-len-requires c κs = search needs
 
 array-share-prefix-b : tie.Need-array-share-prefix-b
-array-share-prefix-b c = part-within (c .before .before .before .args .prefix .len) (c .before .text-len .result) (c .before .before .before .args .prefix .bytes) (c .before .text-len .ensures)
+array-share-prefix-b c = part-within (c .before .before .before .args .prefix) (c .before .text-len .ensures)
 
 slice-aggregate-starts : tie.Need-slice-aggregate-starts
-slice-aggregate-starts c = part-length (c .before .before .before .before .args .prefix .len) (c .before .before .text-len .result) (c .before .before .before .before .args .prefix .bytes) (c .before .before .text-len .ensures)
+slice-aggregate-starts c = part-length (c .before .before .before .before .args .prefix) (c .before .before .text-len .ensures)
 
 starts-requires : tie.Need-starts-requires
 starts-requires c κs = search needs
 
 returns : tie.Need-returns
-returns c = c .starts .ensures ∙ ap (λ (l : List ℕ). startsWith l (c .before .before .before .before .before .args .path .now)) (part-bytes (c .before .before .before .before .before .args .prefix .len) (c .before .before .before .text-len .result) (c .before .before .before .before .before .args .prefix .bytes) (c .before .before .before .text-len .ensures))
+returns c =
+    let d = c .before .before .before in
+    rw (← part-bytes (d .before .before .args .prefix) (d .text-len .ensures)) (c .starts .ensures)
 
 pub covers-spec : {M : Type 1} → statement M
 covers-spec =

@@ -1,8 +1,4 @@
-use mathlib.Core.Path.{ap, _∙_}
-use mathlib.Core.List.{List}
-use Prim.Native.Nat.{ℕ}
-use Rattle.lists.specs.Bytes.{sameBytes}
-use Rattle.text.specs.Text.{textBytes}
+-- `same_text` meets its contract: the part of the array that is lent holds the text's bytes. Assumes nothing.
 use Rattle.text.specs.TextLaws.{part-within, part-bytes, part-length}
 use borrow.Author.Needs.{needs}
 use Rattle.text.proofs.same_text.Statement.{statement}
@@ -12,16 +8,18 @@ text-len-requires : tie.Need-text-len-requires
 text-len-requires c κs = search needs
 
 array-share-prefix-b : tie.Need-array-share-prefix-b
-array-share-prefix-b c = part-within (c .before .before .before .args .t .len) (c .before .text-len .result) (c .before .before .before .args .t .bytes) (c .before .text-len .ensures)
+array-share-prefix-b c = part-within (c .before .before .before .args .t) (c .before .text-len .ensures)
 
 slice-aggregate-same : tie.Need-slice-aggregate-same
-slice-aggregate-same c = part-length (c .before .before .before .before .args .t .len) (c .before .before .text-len .result) (c .before .before .before .before .args .t .bytes) (c .before .before .text-len .ensures)
+slice-aggregate-same c = part-length (c .before .before .before .before .args .t) (c .before .before .text-len .ensures)
 
 same-requires : tie.Need-same-requires
 same-requires c κs = search needs
 
 returns : tie.Need-returns
-returns c = c .same .ensures ∙ ap (λ (l : List ℕ). sameBytes l (c .before .before .before .before .before .args .s .now)) (part-bytes (c .before .before .before .before .before .args .t .len) (c .before .before .before .text-len .result) (c .before .before .before .before .before .args .t .bytes) (c .before .before .before .text-len .ensures))
+returns c =
+    let d = c .before .before .before in
+    rw (← part-bytes (d .before .before .args .t) (d .text-len .ensures)) (c .same .ensures)
 
 pub same-text-spec : {M : Type 1} → statement M
 same-text-spec =

@@ -1,8 +1,4 @@
-use mathlib.Core.Path.{ap, _∙_}
-use mathlib.Core.List.{List}
-use Prim.Native.Nat.{ℕ}
-use Rattle.lists.specs.Bytes.{sameBytes}
-use Rattle.text.specs.Text.{textBytes}
+-- `same_texts` meets its contract: the part of the array that is lent holds the text's bytes. Assumes nothing.
 use Rattle.text.specs.TextLaws.{part-within, part-bytes, part-length}
 use borrow.Author.Needs.{needs}
 use Rattle.text.proofs.same_texts.Statement.{statement}
@@ -12,16 +8,18 @@ text-len-requires : tie.Need-text-len-requires
 text-len-requires c κs = search needs
 
 array-share-prefix-s : tie.Need-array-share-prefix-s
-array-share-prefix-s c = part-within (c .before .before .args .b .len) (c .before .text-len .result) (c .before .before .args .b .bytes) (c .before .text-len .ensures)
+array-share-prefix-s c = part-within (c .before .before .args .b) (c .before .text-len .ensures)
 
 slice-aggregate-same-text : tie.Need-slice-aggregate-same-text
-slice-aggregate-same-text c = part-length (c .before .before .before .args .b .len) (c .before .before .text-len .result) (c .before .before .before .args .b .bytes) (c .before .before .text-len .ensures)
+slice-aggregate-same-text c = part-length (c .before .before .before .args .b) (c .before .before .text-len .ensures)
 
 same-text-requires : tie.Need-same-text-requires
 same-text-requires c κs = search needs
 
 returns : tie.Need-returns
-returns c = c .same-text .ensures ∙ ap (λ (l : List ℕ). sameBytes (textBytes (c .before .before .before .before .args .a)) l) (part-bytes (c .before .before .before .before .args .b .len) (c .before .before .before .text-len .result) (c .before .before .before .before .args .b .bytes) (c .before .before .before .text-len .ensures))
+returns c =
+    let d = c .before .before .before in
+    rw (← part-bytes (d .before .args .b) (d .text-len .ensures)) (c .same-text .ensures)
 
 pub same-texts-spec : {M : Type 1} → statement M
 same-texts-spec =

@@ -1,3 +1,4 @@
+-- `text_len` meets its contract: a text has its array's length or less. Assumes nothing.
 use mathlib.Core.Path.{_≡_, sym, _∙_}
 use lib.ListN.{length, length-take}
 use Rattle.text.specs.Text.{pathLimit}

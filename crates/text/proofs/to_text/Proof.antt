@@ -1,3 +1,4 @@
+-- `to_text` meets its contract: before each byte the array holds the bytes so far, padded with zeros. Assumes nothing.
 use native.Mathlib.Omega.{arith}
 use borrow.Author.Needs.{needs}
 use mathlib.Core.Path.{_≡_, refl, ap, _∙_}
@@ -35,19 +36,19 @@ loop-less c = omega arith
 
 loop-again : tie.Need-loop-again Inv-loop μ-loop
 loop-again c =
-    let s = c .before .before .before .before .before .args .s .now in
-    let w = c .before .before .loop in
+    let d = c .before .before in
+    let s = d .before .before .before .args .s .now in
     let k = min-le-right (length s) pathLimit in
     let l = min-le-left (length s) pathLimit in
-    (omega arith, rw (w .inv .1) (padded-more pathLimit s (w .i) (omega arith) (omega arith)))
+    (omega arith, rw (d .loop .inv .1) (padded-more pathLimit s (d .loop .i) (omega arith) (omega arith)))
 
 returns : tie.Need-returns Inv-loop μ-loop
 returns c =
-    let s = c .before .before .before .before .args .s .now in
-    let w = c .before .loop in
-    let n = c .before .before .capped .result in
-    let q : w .i ≡ n = omega arith in
-    text-filled s n (w .bytes) (c .before .before .capped .ensures) (w .inv .1 ∙ ap (λ (m : ℕ). padded pathLimit (take m s)) q)
+    let d = c .before in
+    let s = d .before .before .before .args .s .now in
+    let n = d .before .capped .result in
+    let q : d .loop .i ≡ n = omega arith in
+    text-filled s n (d .loop .bytes) (d .before .capped .ensures) (d .loop .inv .1 ∙ ap (λ (m : ℕ). padded pathLimit (take m s)) q)
 
 pub to-text-spec : {M : Type 1} → statement M
 to-text-spec =

@@ -1,3 +1,4 @@
+-- `bytes::same` meets its contract: at each byte the rest of both slices decides. Assumes nothing.
 use native.Mathlib.Omega.{arith}
 use mathlib.Core.Path.{_≡_, refl, sym, _∙_}
 use Prim.Native.Nat.{_≤_, _-_}
@@ -27,8 +28,10 @@ shared-slice-read-if2-2 c = omega arith
 
 returns-2 : tie.Need-returns-2 Inv-loop μ-loop
 returns-2 c =
-    let w = c .before .before .before .before .loop in
-    sym (w .inv .2 ∙ same-differ (c .before .before .before .before .before .before .args .a .now) (c .before .before .before .before .before .before .args .b .now) (w .i) (omega arith) (omega arith) (c .if2 .taken))
+    let d = c .before .before .before .before in
+    let a = d .before .before .args .a .now in
+    let b = d .before .before .args .b .now in
+    sym (d .loop .inv .2 ∙ same-differ a b (d .loop .i) (omega arith) (omega arith) (c .if2 .taken))
 
 add-i : tie.Need-add-i Inv-loop μ-loop
 add-i c = omega arith
@@ -38,11 +41,17 @@ loop-less c = omega arith
 
 loop-again : tie.Need-loop-again Inv-loop μ-loop
 loop-again c =
-    let w = c .before .before .before .before .loop in
-    (omega arith, omega arith, w .inv .2 ∙ same-on (c .before .before .before .before .before .before .args .a .now) (c .before .before .before .before .before .before .args .b .now) (w .i) (omega arith) (omega arith) (c .if2 .left))
+    let d = c .before .before .before .before in
+    let a = d .before .before .args .a .now in
+    let b = d .before .before .args .b .now in
+    (omega arith, omega arith, d .loop .inv .2 ∙ same-on a b (d .loop .i) (omega arith) (omega arith) (c .if2 .left))
 
 returns-3 : tie.Need-returns-3 Inv-loop μ-loop
-returns-3 c = let w = c .before .loop in sym (w .inv .2 ∙ same-end (c .before .before .before .args .a .now) (c .before .before .before .args .b .now) (w .i) (omega arith) (omega arith))
+returns-3 c =
+    let d = c .before in
+    let a = d .before .before .args .a .now in
+    let b = d .before .before .args .b .now in
+    sym (d .loop .inv .2 ∙ same-end a b (d .loop .i) (omega arith) (omega arith))
 
 pub same-spec : {M : Type 1} → statement M
 same-spec =

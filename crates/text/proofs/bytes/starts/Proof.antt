@@ -1,3 +1,4 @@
+-- `bytes::starts` meets its contract: at each byte the rest of both slices decides. Assumes nothing.
 use native.Mathlib.Omega.{arith}
 use mathlib.Core.Path.{_≡_, refl, sym, _∙_}
 use Prim.Native.Nat.{_≤_, _-_}
@@ -8,10 +9,11 @@ use Rattle.text.proofs.bytes.starts.Statement.{statement}
 use Rattle.text.proofs.bytes.starts.Tie as tie
 
 abbrev Inv-loop : tie.InvT-loop
-Inv-loop a b i₀ i = (length a ≤ length b) × (i ≤ length a) × (startsWith a b ≡ startsWith (drop i a) (drop i b))
+Inv-loop prefix s i₀ i =
+    (length prefix ≤ length s) × (i ≤ length prefix) × (startsWith prefix s ≡ startsWith (drop i prefix) (drop i s))
 
 abbrev μ-loop : tie.MeasureT-loop
-μ-loop a b i₀ i = length a - i
+μ-loop prefix s i₀ i = length prefix - i
 
 returns : tie.Need-returns Inv-loop μ-loop
 returns c = sym (starts-short _ _ (c .if1 .taken))
@@ -27,8 +29,10 @@ shared-slice-read-if2-2 c = omega arith
 
 returns-2 : tie.Need-returns-2 Inv-loop μ-loop
 returns-2 c =
-    let w = c .before .before .before .before .loop in
-    sym (w .inv .2 ∙ starts-differ (c .before .before .before .before .before .before .args .a .now) (c .before .before .before .before .before .before .args .b .now) (w .i) (omega arith) (omega arith) (c .if2 .taken))
+    let d = c .before .before .before .before in
+    let prefix = d .before .before .args .prefix .now in
+    let s = d .before .before .args .s .now in
+    sym (d .loop .inv .2 ∙ starts-differ prefix s (d .loop .i) (omega arith) (omega arith) (c .if2 .taken))
 
 add-i : tie.Need-add-i Inv-loop μ-loop
 add-i c = omega arith
@@ -38,11 +42,17 @@ loop-less c = omega arith
 
 loop-again : tie.Need-loop-again Inv-loop μ-loop
 loop-again c =
-    let w = c .before .before .before .before .loop in
-    (omega arith, omega arith, w .inv .2 ∙ starts-on (c .before .before .before .before .before .before .args .a .now) (c .before .before .before .before .before .before .args .b .now) (w .i) (omega arith) (omega arith) (c .if2 .left))
+    let d = c .before .before .before .before in
+    let prefix = d .before .before .args .prefix .now in
+    let s = d .before .before .args .s .now in
+    (omega arith, omega arith, d .loop .inv .2 ∙ starts-on prefix s (d .loop .i) (omega arith) (omega arith) (c .if2 .left))
 
 returns-3 : tie.Need-returns-3 Inv-loop μ-loop
-returns-3 c = let w = c .before .loop in sym (w .inv .2 ∙ starts-end (c .before .before .before .args .a .now) (c .before .before .before .args .b .now) (w .i) (omega arith))
+returns-3 c =
+    let d = c .before in
+    let prefix = d .before .before .args .prefix .now in
+    let s = d .before .before .args .s .now in
+    sym (d .loop .inv .2 ∙ starts-end prefix s (d .loop .i) (omega arith))
 
 pub starts-spec : {M : Type 1} → statement M
 starts-spec =

@@ -1,3 +1,4 @@
+-- `bytes::within` meets its contract. Assumes nothing.
 use borrow.Author.Tests.{lt-leb, le-leb}
 use Rattle.text.proofs.bytes.within.Statement.{statement}
 use Rattle.text.proofs.bytes.within.Tie as tie

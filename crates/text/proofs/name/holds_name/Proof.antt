@@ -1,3 +1,4 @@
+-- `name::holds_name` meets its contract. Assumes nothing.
 use native.Mathlib.Omega.{arith}
 use mathlib.Core.Path.{_≡_, sym}
 use borrow.Author.Tests.{lt-leb, le-leb}

@@ -1,3 +1,4 @@
+-- `name::is_name` meets its contract: each test that led to a return is one of the rule's. Assumes nothing.
 use borrow.Author.Tests.{lt-leb, le-leb}
 use Rattle.text.specs.Text.{isName}
 use borrow.Author.Needs.{needs}

@@ -1,45 +1,29 @@
+-- `name::is_name_byte` meets its contract: each test that led to a return is one of the rule's. Assumes nothing.
 use borrow.Author.Tests.{eq-eqb, ne-eqb}
 use borrow.Author.Needs.{needs}
 use Rattle.text.proofs.name.is_name_byte.Statement.{statement}
 use Rattle.text.proofs.name.is_name_byte.Tie as tie
 
-within-requires : tie.Need-within-requires
-within-requires c κs = search needs
+is-letter-or-digit-requires : tie.Need-is-letter-or-digit-requires
+is-letter-or-digit-requires c κs = search needs
 
 returns : tie.Need-returns
-returns c = rw (← c .before .within .ensures, c .if1 .taken)
-
-within-requires-2 : tie.Need-within-requires-2
-within-requires-2 c κs = search needs
+returns c = rw (← c .before .is-letter-or-digit .ensures, c .if1 .taken)
 
 returns-2 : tie.Need-returns-2
-returns-2 c = rw (← c .before .before .before .within .ensures, c .before .before .if1 .left, ← c .before .within2 .ensures, c .if2 .taken)
-
-within-requires-3 : tie.Need-within-requires-3
-within-requires-3 c κs = search needs
+returns-2 c =
+    rw (← c .before .before .is-letter-or-digit .ensures, c .before .if1 .left, eq-eqb _ _ (c .if2 .taken))
 
 returns-3 : tie.Need-returns-3
-returns-3 c = rw (← c .before .before .before .before .before .within .ensures, c .before .before .before .before .if1 .left, ← c .before .before .before .within2 .ensures, c .before .before .if2 .left, ← c .before .within3 .ensures, c .if3 .taken)
+returns-3 c =
+    let d = c .before .before in
+    rw (← d .before .is-letter-or-digit .ensures, d .if1 .left, ne-eqb _ _ (c .before .if2 .left), eq-eqb _ _ (c .if3 .taken))
 
 returns-4 : tie.Need-returns-4
-returns-4 c = rw (← c .before .before .before .before .before .before .within .ensures, c .before .before .before .before .before .if1 .left, ← c .before .before .before .before .within2 .ensures, c .before .before .before .if2 .left, ← c .before .before .within3 .ensures, c .before .if3 .left, eq-eqb _ _ (c .if4 .taken))
-
-returns-5 : tie.Need-returns-5
-returns-5 c = rw (← c .before .before .before .before .before .before .before .within .ensures, c .before .before .before .before .before .before .if1 .left, ← c .before .before .before .before .before .within2 .ensures, c .before .before .before .before .if2 .left, ← c .before .before .before .within3 .ensures, c .before .before .if3 .left, ne-eqb _ _ (c .before .if4 .left), eq-eqb _ _ (c .if5 .taken))
-
-returns-6 : tie.Need-returns-6
-returns-6 c = rw (← c .before .before .before .before .before .before .before .within .ensures, c .before .before .before .before .before .before .if1 .left, ← c .before .before .before .before .before .within2 .ensures, c .before .before .before .before .if2 .left, ← c .before .before .before .within3 .ensures, c .before .before .if3 .left, ne-eqb _ _ (c .before .if4 .left), ne-eqb _ _ (c .if5 .left))
+returns-4 c =
+    let d = c .before .before in
+    rw (← d .before .is-letter-or-digit .ensures, d .if1 .left, ne-eqb _ _ (c .before .if2 .left), ne-eqb _ _ (c .if3 .left))
 
 pub is-name-byte-spec : {M : Type 1} → statement M
 is-name-byte-spec =
-    tie.close
-    (tie.spec
-    within-requires
-    returns
-    within-requires-2
-    returns-2
-    within-requires-3
-    returns-3
-    returns-4
-    returns-5
-    returns-6)
+    tie.close (tie.spec is-letter-or-digit-requires returns returns-2 returns-3 returns-4)

@@ -1,3 +1,4 @@
+-- `path::is_path` meets its contract: each test that led to a return is one of the rule's. Assumes nothing.
 use borrow.Author.Tests.{lt-leb, le-leb, not-true, not-false}
 use Rattle.text.specs.Text.{isPath}
 use borrow.Author.Needs.{needs}
@@ -17,14 +18,29 @@ path-bytes-requires c κs = search needs
 
 returns-3 : tie.Need-returns-3
 unfolding isPath
-returns-3 c = rw (le-leb _ _ (c .before .before .before .if1 .left), le-leb _ _ (c .before .before .if2 .left), ← c .before .path-bytes .ensures, not-true (c .before .path-bytes .result) (c .if3 .taken))
+returns-3 c =
+    let d = c .before in
+    rw (
+      le-leb _ _ (d .before .before .if1 .left),
+      le-leb _ _ (d .before .if2 .left),
+      ← d .path-bytes .ensures,
+      not-true (d .path-bytes .result) (c .if3 .taken),
+    )
 
 parts-pass-requires : tie.Need-parts-pass-requires
 parts-pass-requires c κs = search needs
 
 returns-4 : tie.Need-returns-4
 unfolding isPath
-returns-4 c = rw (le-leb _ _ (c .before .before .before .before .if1 .left), le-leb _ _ (c .before .before .before .if2 .left), ← c .before .before .path-bytes .ensures, not-false (c .before .before .path-bytes .result) (c .before .if3 .left)) (c .parts-pass .ensures)
+returns-4 c =
+    let d = c .before .before in
+    rw (
+      le-leb _ _ (d .before .before .if1 .left),
+      le-leb _ _ (d .before .if2 .left),
+      ← d .path-bytes .ensures,
+      not-false (d .path-bytes .result) (c .before .if3 .left),
+    )
+    (c .parts-pass .ensures)
 
 pub is-path-spec : {M : Type 1} → statement M
 is-path-spec =

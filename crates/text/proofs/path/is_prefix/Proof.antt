@@ -1,11 +1,10 @@
+-- `path::is_prefix` meets its contract: each test that led to a return is one of the rule's. Assumes nothing.
 use native.Mathlib.Omega.{arith}
-use mathlib.Core.Path.{sym, _∙_}
+use mathlib.Core.Path.{sym}
 use borrow.Author.Tests.{lt-leb, le-leb, eq-eqb, ne-eqb}
 use Rattle.text.specs.Text.{isPathAndSlash}
 use Rattle.text.specs.PathLaws.{prefix-none, prefix-some}
 use lib.Seq.{length-take-le}
-use native.Mathlib.Omega.{arith}
-use mathlib.Core.Path.{sym, _∙_}
 use borrow.Author.Needs.{needs}
 use Rattle.text.proofs.path.is_prefix.Statement.{statement}
 use Rattle.text.proofs.path.is_prefix.Tie as tie
@@ -25,7 +24,9 @@ shared-slice-read-if3 c = search needs
 
 returns-3 : tie.Need-returns-3
 unfolding isPathAndSlash
-returns-3 c = rw (prefix-some _ (c .before .before .before .if1 .left), le-leb _ _ (c .before .before .if2 .left), ne-eqb _ _ (c .if3 .taken))
+returns-3 c =
+    let d = c .before .before in
+    rw (prefix-some _ (d .before .if1 .left), le-leb _ _ (d .if2 .left), ne-eqb _ _ (c .if3 .taken))
 
 slice-aggregate-is-path : tie.Need-slice-aggregate-is-path
 slice-aggregate-is-path c = sym (length-take-le _ _ (omega arith))
@@ -36,7 +37,9 @@ is-path-requires c κs = search needs
 returns-4 : tie.Need-returns-4
 unfolding isPathAndSlash
 returns-4 c =
-    rw (prefix-some _ (c .before .before .before .before .before .if1 .left), le-leb _ _ (c .before .before .before .before .if2 .left), eq-eqb _ _ (c .before .before .if3 .left)) (c .is-path .ensures)
+    let d = c .before .before in
+    rw (prefix-some _ (d .before .before .before .if1 .left), le-leb _ _ (d .before .before .if2 .left), eq-eqb _ _ (d .if3 .left))
+    (c .is-path .ensures)
 
 pub is-prefix-spec : {M : Type 1} → statement M
 is-prefix-spec =

@@ -1,3 +1,4 @@
+-- `path::parts_pass` meets its contract: before each byte, what is known is what the parts of the bytes after it say. Assumes nothing.
 use native.Mathlib.Omega.{arith}
 use borrow.Author.Needs.{needs}
 use mathlib.Core.Path.{_≡_, ap, sym, _∙_}
@@ -32,18 +33,19 @@ loop-less c = omega arith
 
 loop-again : tie.Need-loop-again Inv-loop μ-loop
 loop-again c =
-    let w = c .before .before .before .loop in
-    (omega arith, c .scan-byte .ensures ∙ sym (known-more (c .before .before .before .before .before .args .s .now) (w .i) (omega arith) (omega arith) (w .inv .1)))
+    let d = c .before .before .before in
+    let s = d .before .before .args .s .now in
+    (omega arith, c .scan-byte .ensures ∙ sym (known-more s (d .loop .i) (omega arith) (omega arith) (d .loop .inv .1)))
 
 passes-requires : tie.Need-passes-requires Inv-loop μ-loop
 passes-requires c κs = search needs
 
 returns : tie.Need-returns Inv-loop μ-loop
 returns c =
-    let w = c .before .before .loop in
-    let s = c .before .before .before .before .args .s .now in
-    let z : w .i ≡ 0 = omega arith in
-    c .passes .ensures ∙ ap passes (w .inv .1 ∙ ap (λ (n : ℕ). known (parts (drop n s))) z) ∙ known-passes s
+    let d = c .before .before in
+    let s = d .before .before .args .s .now in
+    let z : d .loop .i ≡ 0 = omega arith in
+    c .passes .ensures ∙ ap passes (d .loop .inv .1 ∙ ap (λ (n : ℕ). known (parts (drop n s))) z) ∙ known-passes s
 
 pub parts-pass-spec : {M : Type 1} → statement M
 parts-pass-spec =

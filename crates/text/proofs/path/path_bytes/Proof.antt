@@ -1,3 +1,4 @@
+-- `path::path_bytes` meets its contract: at each byte the rest decides. Assumes nothing.
 use native.Mathlib.Omega.{arith}
 use borrow.Author.Needs.{needs}
 use mathlib.Core.Path.{_≡_, refl, sym, _∙_}
@@ -27,8 +28,10 @@ is-path-byte-requires c κs = search needs
 
 returns : tie.Need-returns Inv-loop μ-loop
 returns c =
-    let w = c .before .before .before .before .loop in
-    sym (w .inv .1 ∙ all-fails isPathByte (c .before .before .before .before .before .before .args .s .now) 0 (w .i) (omega arith) (c .before .is-path-byte .ensures) (not-true _ (c .if1 .taken)))
+    let d = c .before .before .before .before in
+    let s = d .before .before .args .s .now in
+    let t = c .before .is-path-byte .ensures in
+    sym (d .loop .inv .1 ∙ all-fails isPathByte s 0 (d .loop .i) (omega arith) t (not-true _ (c .if1 .taken)))
 
 add-i : tie.Need-add-i Inv-loop μ-loop
 add-i c = omega arith
@@ -38,11 +41,15 @@ loop-less c = omega arith
 
 loop-again : tie.Need-loop-again Inv-loop μ-loop
 loop-again c =
-    let w = c .before .before .before .before .loop in
-    (omega arith, w .inv .1 ∙ all-on isPathByte (c .before .before .before .before .before .before .args .s .now) 0 (w .i) (omega arith) (c .before .is-path-byte .ensures) (not-false _ (c .if1 .left)))
+    let d = c .before .before .before .before in
+    let s = d .before .before .args .s .now in
+    let t = c .before .is-path-byte .ensures in
+    (omega arith, d .loop .inv .1 ∙ all-on isPathByte s 0 (d .loop .i) (omega arith) t (not-false _ (c .if1 .left)))
 
 returns-2 : tie.Need-returns-2 Inv-loop μ-loop
-returns-2 c = let w = c .before .loop in sym (w .inv .1 ∙ all-end isPathByte (c .before .before .before .args .s .now) (w .i) (omega arith))
+returns-2 c =
+    let d = c .before in
+    sym (d .loop .inv .1 ∙ all-end isPathByte (d .before .before .args .s .now) (d .loop .i) (omega arith))
 
 pub path-bytes-spec : {M : Type 1} → statement M
 path-bytes-spec =

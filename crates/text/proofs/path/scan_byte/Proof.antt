@@ -1,3 +1,4 @@
+-- `path::scan_byte` meets its contract. Assumes nothing.
 use borrow.Author.Tests.{eq-eqb, ne-eqb}
 use borrow.Author.Needs.{needs}
 use Rattle.text.proofs.path.scan_byte.Statement.{statement}
