@@ -1,3 +1,2 @@
 pub mod HealthLaws
 pub mod FindLaws
-pub mod TextLaws

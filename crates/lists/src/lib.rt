@@ -26,16 +26,16 @@ pub fn same_bytes(a: &[u8], b: &[u8]) -> bool
     true
 }
 
-// Whether the bytes of b begin with those of a.
-pub fn starts_with(a: &[u8], b: &[u8]) -> bool
-    ensures { λ r. ⌜ r ≡ startsWith (now (a .entry)) (now (b .entry)) ⌝ }
+// Whether the bytes of s begin with those of prefix.
+pub fn starts_with(prefix: &[u8], s: &[u8]) -> bool
+    ensures { λ r. ⌜ r ≡ startsWith (now (prefix .entry)) (now (s .entry)) ⌝ }
 {
-    if b.len() < a.len() {
+    if s.len() < prefix.len() {
         return false;
     }
     let mut i: usize = 0;
-    while i < a.len() {
-        if a[i] != b[i] {
+    while i < prefix.len() {
+        if prefix[i] != s[i] {
             return false;
         }
         i += 1;

@@ -67,7 +67,7 @@ pub fn same_text(t: Text, s: &[u8]) -> bool
 {
     let n = text_len(t);
     let b = t.bytes;
-    bytes::same(&b[..n], s)
+    lists::same_bytes(&b[..n], s)
 }
 
 // Whether two texts hold the same bytes.
@@ -85,5 +85,5 @@ pub fn covers(prefix: Text, path: &[u8]) -> bool
 {
     let n = text_len(prefix);
     let b = prefix.bytes;
-    bytes::starts(&b[..n], path)
+    lists::starts_with(&b[..n], path)
 }

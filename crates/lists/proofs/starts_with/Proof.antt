@@ -28,7 +28,7 @@ shared-slice-read-if2-2 c = omega arith
 returns-2 : tie.Need-returns-2 Inv-loop μ-loop
 returns-2 c =
     let w = c .before .before .before .before .loop in
-    sym (w .inv .2 ∙ starts-differ (c .before .before .before .before .before .before .args .a .now) (c .before .before .before .before .before .before .args .b .now) (w .i) (omega arith) (omega arith) (c .if2 .taken))
+    sym (w .inv .2 ∙ starts-differ (c .before .before .before .before .before .before .args .prefix .now) (c .before .before .before .before .before .before .args .s .now) (w .i) (omega arith) (omega arith) (c .if2 .taken))
 
 add-i : tie.Need-add-i Inv-loop μ-loop
 add-i c = omega arith
@@ -39,10 +39,10 @@ loop-less c = omega arith
 loop-again : tie.Need-loop-again Inv-loop μ-loop
 loop-again c =
     let w = c .before .before .before .before .loop in
-    (omega arith, omega arith, w .inv .2 ∙ starts-on (c .before .before .before .before .before .before .args .a .now) (c .before .before .before .before .before .before .args .b .now) (w .i) (omega arith) (omega arith) (c .if2 .left))
+    (omega arith, omega arith, w .inv .2 ∙ starts-on (c .before .before .before .before .before .before .args .prefix .now) (c .before .before .before .before .before .before .args .s .now) (w .i) (omega arith) (omega arith) (c .if2 .left))
 
 returns-3 : tie.Need-returns-3 Inv-loop μ-loop
-returns-3 c = let w = c .before .loop in sym (w .inv .2 ∙ starts-end (c .before .before .before .args .a .now) (c .before .before .before .args .b .now) (w .i) (omega arith))
+returns-3 c = let w = c .before .loop in sym (w .inv .2 ∙ starts-end (c .before .before .before .args .prefix .now) (c .before .before .before .args .s .now) (w .i) (omega arith))
 
 pub starts-with-spec : {M : Type 1} → statement M
 starts-with-spec =

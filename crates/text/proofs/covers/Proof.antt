@@ -10,16 +10,16 @@ text-len-requires c κs = search needs
 array-share-prefix-b : tie.Need-array-share-prefix-b
 array-share-prefix-b c = part-within (c .before .before .before .args .prefix) (c .before .text-len .ensures)
 
-slice-aggregate-starts : tie.Need-slice-aggregate-starts
-slice-aggregate-starts c = part-length (c .before .before .before .before .args .prefix) (c .before .before .text-len .ensures)
+slice-aggregate-starts-with : tie.Need-slice-aggregate-starts-with
+slice-aggregate-starts-with c = part-length (c .before .before .before .before .args .prefix) (c .before .before .text-len .ensures)
 
-starts-requires : tie.Need-starts-requires
-starts-requires c κs = search needs
+starts-with-requires : tie.Need-starts-with-requires
+starts-with-requires c κs = search needs
 
 returns : tie.Need-returns
 returns c =
     let d = c .before .before .before in
-    rw (← part-bytes (d .before .before .args .prefix) (d .text-len .ensures)) (c .starts .ensures)
+    rw (← part-bytes (d .before .before .args .prefix) (d .text-len .ensures)) (c .starts-with .ensures)
 
 pub covers-spec : {M : Type 1} → statement M
 covers-spec =
@@ -27,6 +27,6 @@ covers-spec =
     (tie.spec
     text-len-requires
     array-share-prefix-b
-    slice-aggregate-starts
-    starts-requires
+    slice-aggregate-starts-with
+    starts-with-requires
     returns)

@@ -10,18 +10,18 @@ text-len-requires c κs = search needs
 array-share-prefix-b : tie.Need-array-share-prefix-b
 array-share-prefix-b c = part-within (c .before .before .before .args .t) (c .before .text-len .ensures)
 
-slice-aggregate-same : tie.Need-slice-aggregate-same
-slice-aggregate-same c = part-length (c .before .before .before .before .args .t) (c .before .before .text-len .ensures)
+slice-aggregate-same-bytes : tie.Need-slice-aggregate-same-bytes
+slice-aggregate-same-bytes c = part-length (c .before .before .before .before .args .t) (c .before .before .text-len .ensures)
 
-same-requires : tie.Need-same-requires
-same-requires c κs = search needs
+same-bytes-requires : tie.Need-same-bytes-requires
+same-bytes-requires c κs = search needs
 
 returns : tie.Need-returns
 returns c =
     let d = c .before .before .before in
-    rw (← part-bytes (d .before .before .args .t) (d .text-len .ensures)) (c .same .ensures)
+    rw (← part-bytes (d .before .before .args .t) (d .text-len .ensures)) (c .same-bytes .ensures)
 
 pub same-text-spec : {M : Type 1} → statement M
 same-text-spec =
     tie.close
-    (tie.spec text-len-requires array-share-prefix-b slice-aggregate-same same-requires returns)
+    (tie.spec text-len-requires array-share-prefix-b slice-aggregate-same-bytes same-bytes-requires returns)

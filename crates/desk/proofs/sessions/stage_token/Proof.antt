@@ -1,4 +1,4 @@
-use Rattle.desk.proofs.TextLaws.{path-short}
+use Rattle.text.specs.TextLaws.{path-fits}
 use Rattle.rules.specs.SessionCalls.{stageToken, newPut}
 use lib.Seq.{take-all}
 use Rattle.text.specs.Text.{pathLimit}
@@ -48,7 +48,7 @@ unfolding stageToken
 returns-2 c =
     let path = c .before .before .before .before .before .before .before .args .path .now in
     let e = c .before .make-put .ensures in
-    let q = rw (take-all pathLimit path (path-short path (c .before .before .before .before .before .before .before .pre))) at e in
+    let q = rw (take-all pathLimit path (path-fits path (c .before .before .before .before .before .before .before .pre))) at e in
     rw (← c .before .before .before .covers .ensures, c .before .before .if1 .left, ← q) (c .stage-put .ensures)
 
 pub stage-token-spec : {M : Type 1} → statement M
