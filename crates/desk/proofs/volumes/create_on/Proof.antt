@@ -1,3 +1,5 @@
+use native.Mathlib.Nat.{le-trans}
+use lib.Dec.{lit≤}
 use Rattle.text.specs.TextLaws.{name-fits}
 use Rattle.rules.specs.VolumeCalls.{createRule, createIn}
 use lib.Seq.{take-all}
@@ -126,7 +128,7 @@ returns-7 c =
     let name = c .before .before .before .before .before .before .before .before .before .before .before .before .before .before .before .before .before .args .name .now in
     let e = c .before .make-volume .ensures in
     let h : Rattle.text.specs.Text.isName name ≡ mathlib.Core.Bool.true = sym (c .before .before .before .before .before .before .before .before .before .before .before .before .before .before .before .is-name .ensures) ∙ not-false (c .before .before .before .before .before .before .before .before .before .before .before .before .before .before .before .is-name .result) (c .before .before .before .before .before .before .before .before .before .before .before .before .before .before .if1 .left) in
-    let q = rw (take-all pathLimit name (name-fits name h)) at e in
+    let q = rw (take-all pathLimit name (le-trans (name-fits name h) (lit≤ tt))) at e in
     rw (← c .before .before .before .before .before .before .before .before .before .before .before .before .before .before .before .is-name .ensures, not-false (c .before .before .before .before .before .before .before .before .before .before .before .before .before .before .before .is-name .result) (c .before .before .before .before .before .before .before .before .before .before .before .before .before .before .if1 .left), ← c .before .before .before .before .before .before .before .before .before .before .before .before .before .shards-fit .ensures, not-false (c .before .before .before .before .before .before .before .before .before .before .before .before .before .shards-fit .result) (c .before .before .before .before .before .before .before .before .before .before .before .before .if2 .left), ← c .before .before .before .before .before .before .before .before .before .before .before .cap-fits .ensures, not-false (c .before .before .before .before .before .before .before .before .before .before .before .cap-fits .result) (c .before .before .before .before .before .before .before .before .before .before .if3 .left), ← c .before .before .before .before .before .before .before .before .name-taken .ensures, c .before .before .before .before .before .before .before .if4 .left, lt-leb _ _ (c .before .before .before .before .before .before .if5 .left), found-row freeVolume (c .before .before .before .before .before .before .before .before .before .before .before .before .before .before .before .before .before .args .t .volumes) (c .before .before .before .before .before .free-volume .ensures) (c .before .before .before .i .given .0 .0) blankVolume (c .before .before .before .i .given .1)) (c .store-volume .ensures ∙ rw q)
 
 pub create-on-spec : {M : Type 1} → statement M
