@@ -18,3 +18,5 @@ pub mod SoundParts
 pub mod Shape
 pub mod MappedLaws
 pub mod ClearedLaws
+pub mod RestParts
+pub mod LastingLaws
