@@ -102,22 +102,23 @@ bytes-same n vs ws e q =
     let s : shardBytes ws e ≡ shardBytes vs e = shard-hit ws e (find (isVolume (e .volume)) ws) refl ∙ ap (bytesIn (e .size)) q ∙ sym (shard-hit vs e (find (isVolume (e .volume)) vs) refl) in
     rw s
 
--- the placement of an entry
-placed-hit : (t : Tables) (ws : List Volume) (p : Placement) (g h : Hit Volume) → mapHit lasting g ≡ mapHit lasting h → soundIn (withVolumes t ws) p g ≡ soundIn t p h
-unfolding soundIn soundPlacement
-placed-hit t ws p miss miss e = refl
-placed-hit t ws p miss (hit i v) e = absurd (miss-hit refl e)
-placed-hit t ws p (hit i v) miss e = absurd (miss-hit e refl)
-placed-hit t ws p (hit i v) (hit j w) e =
-    let q : lasting v ≡ lasting w = cc in
-    rw (ap (λ (x : Lasting). x .k) q, ap (λ (x : Lasting). x .m) q)
+-- an entry is as sound in tables that have given as many relay numbers, and in which its volume has what it had of what lasts
+module _ (t u : Tables) (l : u .«last_relay» ≡ t .«last_relay») where
+  placed-hit : (p : Placement) (g h : Hit Volume) → mapHit lasting g ≡ mapHit lasting h → soundIn u p g ≡ soundIn t p h
+  unfolding soundIn soundPlacement
+  placed-hit p miss miss e = refl
+  placed-hit p miss (hit i v) e = absurd (miss-hit refl e)
+  placed-hit p (hit i v) miss e = absurd (miss-hit e refl)
+  placed-hit p (hit i v) (hit j w) e =
+      let q : lasting v ≡ lasting w = cc in
+      rw (ap (λ (x : Lasting). x .k) q, ap (λ (x : Lasting). x .m) q, l)
+
+  pub entry-same : (e : Entry) → lastingOf (u .volumes) (e .volume) ≡ lastingOf (t .volumes) (e .volume) → soundEntry u e ≡ soundEntry t e
+  unfolding soundEntry
+  entry-same e q = rw (placed-hit (e .placement) (find (isVolume (e .volume)) (u .volumes)) (find (isVolume (e .volume)) (t .volumes)) q)
 
 -- a row that reads of the volumes what has not changed is as sound as it was
 module _ (t : Tables) (ws : List Volume) where
-  pub entry-same : (e : Entry) → lastingOf ws (e .volume) ≡ lastingOf (t .volumes) (e .volume) → soundEntry (withVolumes t ws) e ≡ soundEntry t e
-  unfolding soundEntry
-  entry-same e q = rw (placed-hit t ws (e .placement) (find (isVolume (e .volume)) ws) (find (isVolume (e .volume)) (t .volumes)) q)
-
   pub token-same : (k : Token) → lastingOf ws (k .volume) ≡ lastingOf (t .volumes) (k .volume) → soundToken (withVolumes t ws) k ≡ soundToken t k
   unfolding soundToken volumeThere parentThere
   token-same k q = rw (there-same (k .volume) (t .volumes) ws q)
@@ -143,7 +144,7 @@ volumes-change t ws s p =
       counts = p .counts;
       volume-numbers = s .numbers;
       volume-names = s .names;
-      entries = all-same (soundEntry u) (soundEntry t) (t .entries) (t .entries) (map-agree (soundEntry u) (soundEntry t) (t .entries) freshEntry (λ j h. entry-same t ws (getD (t .entries) j freshEntry) (s .entries j h))) ∙ p .entries;
+      entries = all-same (soundEntry u) (soundEntry t) (t .entries) (t .entries) (map-agree (soundEntry u) (soundEntry t) (t .entries) freshEntry (λ j h. entry-same t u refl (getD (t .entries) j freshEntry) (s .entries j h))) ∙ p .entries;
       entry-paths = p .entry-paths;
       tokens = all-same (soundToken u) (soundToken t) (t .tokens) (t .tokens) (map-agree (soundToken u) (soundToken t) (t .tokens) freshToken (λ j h. token-same t ws (getD (t .tokens) j freshToken) (s .tokens j h))) ∙ p .tokens;
       token-numbers = p .token-numbers;

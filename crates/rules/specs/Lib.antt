@@ -20,3 +20,5 @@ pub mod MappedLaws
 pub mod ClearedLaws
 pub mod RestParts
 pub mod LastingLaws
+pub mod RowFacts
+pub mod RoomLaws
