@@ -18,7 +18,10 @@ pub mod SoundParts
 pub mod Shape
 pub mod MappedLaws
 pub mod ClearedLaws
+pub mod RowFacts
 pub mod RestParts
 pub mod LastingLaws
-pub mod RowFacts
 pub mod RoomLaws
+pub mod Family
+pub mod TokensGo
+pub mod RemoveSound

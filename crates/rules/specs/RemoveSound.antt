@@ -1,0 +1,1 @@
+-- Remove keeps the tables sound. Assumes nothing.
