@@ -24,4 +24,5 @@ pub mod LastingLaws
 pub mod RoomLaws
 pub mod Family
 pub mod TokensGo
+pub mod OutcomeCases
 pub mod RemoveSound

@@ -1,6 +1,6 @@
 -- Tokens go, and with each that stays its parent stays: the rest of the tables stays sound, and families stay in one volume. Assumes nothing.
 use mathlib.Core.Path.{_≡_, refl, ap, sym, _∙_}
-use mathlib.Core.Bool.{Bool, true, false, _&&_, _||_}
+use mathlib.Core.Bool.{Bool, true, false, _&&_, _||_, cond, true≢false}
 use mathlib.Core.Logic.{⊎-elim}
 use mathlib.Core.List.{List, [], _∷_}
 use Prim.Native.Nat.{ℕ, zero, suc, _<_}
@@ -116,3 +116,18 @@ module _ (gone : Token → Bool) (t : Tables) (stay : ParentsStay gone (t .token
         relays = s .relays;
         relay-numbers = s .relay-numbers;
       }
+
+  -- and families stay in one volume
+  family-row : (c : Bool) (j : ℕ) → j < length (t .tokens) → gone (getD (t .tokens) j freshToken) ≡ c → FamilyInOneVolume t
+      → (r : Token) → r ≡ cond c freshToken (getD (t .tokens) j freshToken) → usedToken r ≡ true → (i : ℕ) (k : Token)
+      → find (isToken (r .parent)) (cleared gone freshToken (t .tokens)) ≡ hit i k → k .volume ≡ r .volume
+  family-row true j b g f r q w i k e = absurd (true≢false (sym (rw q at w)))
+  family-row false j b g f r q w i k e =
+      let v : usedToken (getD (t .tokens) j freshToken) ≡ true = rw q at w in
+      rw q (f j b v i k (sym (parent-stays gone (t .tokens) stay j b v g) ∙ rw q at e))
+
+  pub family-stays : FamilyInOneVolume t → FamilyInOneVolume (withTokens t (cleared gone freshToken (t .tokens)))
+  family-stays f j b w i k e =
+      let c : j < length (t .tokens) = rw (length-cleared gone freshToken (t .tokens)) at b in
+      family-row (gone (getD (t .tokens) j freshToken)) j c refl f (getD (cleared gone freshToken (t .tokens)) j freshToken)
+      (cleared-at gone freshToken (t .tokens) j freshToken c) w i k e
