@@ -15,3 +15,4 @@ pub mod SessionCalls
 pub mod Commit
 pub mod Calls
 pub mod SoundParts
+pub mod Shape
