@@ -16,3 +16,7 @@ pub mod Commit
 pub mod Calls
 pub mod SoundParts
 pub mod Shape
+pub mod MappedLaws
+pub mod ClearedLaws
+pub mod RestParts
+pub mod LastingLaws
