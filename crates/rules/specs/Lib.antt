@@ -20,3 +20,6 @@ pub mod MappedLaws
 pub mod ClearedLaws
 pub mod RestParts
 pub mod LastingLaws
+pub mod SetLaws
+pub mod RowFacts
+pub mod RowsKept
