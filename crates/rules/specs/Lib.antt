@@ -23,3 +23,8 @@ pub mod LastingLaws
 pub mod SetLaws
 pub mod RowFacts
 pub mod RowsKept
+pub mod BranchLaws
+pub mod NumberLaws
+pub mod Family
+pub mod Invariant
+pub mod RelaySound

@@ -43,10 +43,16 @@ pub record Grown (t u : Tables) : Type 0 where
 pub grown-self : (t : Tables) → Grown t t
 grown-self t = omega arith
 
--- a number that was given stays given
+-- a number that was given is at most the last one, and back; it stays given
+pub given-le : (last n : ℕ) → isGiven last n ≡ true → n ≤ last
+given-le last n e = leb-true n last (and-right (leb 1 n) (leb n last) e)
+
+pub le-given : (last n : ℕ) → 1 ≤ n → n ≤ last → isGiven last n ≡ true
+le-given last n h k = and-both (le-leb 1 n h) (le-leb n last k)
+
 pub given-grown : (a b n : ℕ) → a ≤ b → isGiven a n ≡ true → isGiven b n ≡ true
 given-grown a b n h e =
-    and-both (and-left (leb 1 n) (leb n a) e) (le-leb n b (omega (arith, leb-true n a (and-right (leb 1 n) (leb n a) e))))
+    and-both (and-left (leb 1 n) (leb n a) e) (le-leb n b (omega (arith, given-le a n e)))
 
 -- volumes: the last number and the clock
 status-grown : (c d : ℕ) (s : Status) (grace deleted : ℕ) → c ≤ d → soundStatus c s grace deleted ≡ true → soundStatus d s grace deleted ≡ true
