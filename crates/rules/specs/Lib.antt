@@ -21,8 +21,13 @@ pub mod ClearedLaws
 pub mod RowFacts
 pub mod RestParts
 pub mod LastingLaws
-pub mod RoomLaws
+pub mod SetLaws
+pub mod RowsKept
+pub mod BranchLaws
+pub mod NumberLaws
 pub mod Family
+pub mod Invariant
+pub mod RelaySound
+pub mod RoomLaws
 pub mod TokensGo
-pub mod OutcomeCases
 pub mod RemoveSound

@@ -14,11 +14,11 @@ use Rattle.rules.specs.declared.Token.{Token}
 use Rattle.rules.specs.declared.Relay.{Relay}
 use Rattle.rules.specs.declared.Session.{Session}
 use Rattle.rules.specs.declared.Tables.{Tables}
-use Rattle.rules.specs.Limits.{putRows, sizeLimit, capacityLimit, usedLimit, balanceLimit, deepest}
+use Rattle.rules.specs.Limits.{putRows, sizeLimit, capacityLimit, usedLimit, clockLimit, balanceLimit, depositsLimit, lastNumber, deepest}
 use Rattle.rules.specs.Tables.{given, usedVolume, usedEntry, usedToken, usedRelay, busy, freeVolume, freeEntry, freeToken, freeRelay, isVolume, staged}
 use Rattle.rules.specs.Scope.{capFits, depth}
 use Rattle.rules.specs.Relays.{bytesOn, shardsOn}
-use Rattle.rules.specs.Sound.{isGiven, soundStatus, shardsFit, soundVolume, soundIn, soundEntry, volumeThere, parentThere, soundToken, soundRelay, soundPut, samePath, soundSession}
+use Rattle.rules.specs.Sound.{isGiven, soundStatus, shardsFit, soundVolume, soundIn, soundEntry, volumeThere, parentThere, soundToken, soundRelay, soundPut, samePath, soundSession, soundCounts}
 
 -- the test of a row that is in use, and of any row whose facts hold
 or-second : (a b : Bool) → a ≡ false → (a || b) ≡ true → b ≡ true
@@ -149,3 +149,17 @@ module _ (t : Tables) (s : Session) where
   pub idle-session : busy s ≡ false → soundSession t s ≡ true
   unfolding soundSession
   idle-session u = or-first (not (busy s)) _ (rw u)
+
+pub record CountFacts (t : Tables) : Type 0 where
+  pub clock : leb (t .clock) clockLimit ≡ true
+  pub deposits : leb (t .deposits) depositsLimit ≡ true
+  pub volumes : leb (t .«last_volume») lastNumber ≡ true
+  pub tokens : leb (t .«last_token») lastNumber ≡ true
+  pub relays : leb (t .«last_relay») lastNumber ≡ true
+
+module _ (t : Tables) where
+  pub count-facts : soundCounts t ≡ true → CountFacts t
+  count-facts h = search (and-left, and-right)
+
+  pub facts-counts : CountFacts t → soundCounts t ≡ true
+  facts-counts f = and-both (and-both (and-both (and-both (f .clock) (f .deposits)) (f .volumes)) (f .tokens)) (f .relays)

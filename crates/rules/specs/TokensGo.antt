@@ -120,7 +120,7 @@ module _ (gone : Token → Bool) (t : Tables) (stay : ParentsStay gone (t .token
   -- and families stay in one volume
   family-row : (c : Bool) (j : ℕ) → j < length (t .tokens) → gone (getD (t .tokens) j freshToken) ≡ c → FamilyInOneVolume t
       → (r : Token) → r ≡ cond c freshToken (getD (t .tokens) j freshToken) → usedToken r ≡ true → (i : ℕ) (k : Token)
-      → find (isToken (r .parent)) (cleared gone freshToken (t .tokens)) ≡ hit i k → k .volume ≡ r .volume
+      → find (isToken (r .parent)) (cleared gone freshToken (t .tokens)) ≡ hit i k → k .volume .0 ≡ r .volume .0
   family-row true j b g f r q w i k e = absurd (true≢false (sym (rw q at w)))
   family-row false j b g f r q w i k e =
       let v : usedToken (getD (t .tokens) j freshToken) ≡ true = rw q at w in
