@@ -31,3 +31,6 @@ pub mod RelaySound
 pub mod RoomLaws
 pub mod TokensGo
 pub mod RemoveSound
+pub mod CollectSound
+pub mod SettleSound
+pub mod AdvanceSound
