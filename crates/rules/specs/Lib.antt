@@ -34,3 +34,8 @@ pub mod RemoveSound
 pub mod CollectSound
 pub mod SettleSound
 pub mod AdvanceSound
+pub mod Coins
+pub mod LiveLaws
+pub mod AdvanceCoins
+pub mod CoinlessCalls
+pub mod CoinLaws
