@@ -1,22 +1,19 @@
 -- Advance keeps the tables sound: the clock goes on, relays leave, rents are settled at an epoch end, and what is due is collected. Assumes
 -- nothing.
-use mathlib.Core.Path.{_≡_, refl, ap, sym, _∙_}
-use mathlib.Core.Bool.{Bool, true, false, _&&_, _||_, cond}
-use mathlib.Core.List.{List}
+use mathlib.Core.Path.{_≡_, refl, _∙_}
+use mathlib.Core.Bool.{Bool, true, false, _||_}
 use Prim.Native.Nat.{ℕ, _<_, _≤_}
 use native.Mathlib.Omega.{arith}
-use borrow.Author.Tests.{leb-true, ltb-false, le-leb}
+use borrow.Author.Tests.{ltb-false, le-leb}
 use lib.Dec.{leb, ltb}
 use lib.ListN.{length, getD}
 use Rattle.lists.specs.BoolLaws.{or-left, or-right}
 use Rattle.lists.specs.TestLaws.{all-at, all-weaker}
-use Rattle.rules.specs.declared.Volume.{Volume}
-use Rattle.rules.specs.declared.Relay.{Relay}
 use Rattle.rules.specs.declared.Tables.{Tables}
 use Rattle.rules.specs.Limits.{clockLimit}
 use Rattle.rules.specs.Numbers.{CLOCK}
 use Rattle.rules.specs.Fresh.{freshVolume, freshRelay}
-use Rattle.rules.specs.Tables.{withClock, withRelays, cleared}
+use Rattle.rules.specs.Tables.{withClock}
 use Rattle.rules.specs.Relays.{isDead}
 use Rattle.rules.specs.Rent.{epochEnds}
 use Rattle.rules.specs.Outcome.{refused, accepted}
@@ -30,7 +27,7 @@ use Rattle.rules.specs.BranchLaws.{cond-case}
 use Rattle.rules.specs.RowFacts.{free-relay, count-facts, facts-counts}
 use Rattle.rules.specs.RowsKept.{Grown, volume-grown, entry-grown, relay-grown, token-stays}
 use Rattle.rules.specs.Invariant.{Invariant, Follows, follows-self}
-use Rattle.rules.specs.RestParts.{Rest, rest-of, with-volumes}
+use Rattle.rules.specs.RestParts.{Rest, rest-of}
 use Rattle.rules.specs.ClearedLaws.{length-cleared, all-cleared, clash-cleared}
 use Rattle.rules.specs.LastingLaws.{entry-same}
 use Rattle.rules.specs.RoomLaws.{no-zero}
@@ -78,8 +75,8 @@ module _ (t : Tables) where
         tokens = p .tokens;
         token-numbers = p .token-numbers;
         relays =
-          all-cleared (isDead (t .clock)) freshRelay (soundRelay u) (t .relays) freshRelay (free-relay u freshRelay refl)
-          (λ j b n. all-at (soundRelay t) (t .relays) (p .relays) j b freshRelay);
+            all-cleared (isDead (t .clock)) freshRelay (soundRelay u) (t .relays) freshRelay (free-relay u freshRelay refl)
+            (λ j b n. all-at (soundRelay t) (t .relays) (p .relays) j b freshRelay);
         relay-numbers = clash-cleared (isDead (t .clock)) freshRelay sameRelayRow (t .relays) (λ y. refl) (λ x. no-zero (x .no .0)) (p .relay-numbers);
       }
 

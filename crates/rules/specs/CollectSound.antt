@@ -2,18 +2,17 @@
 -- token its parent. Assumes nothing.
 use mathlib.Core.Path.{_≡_, refl, ap, _∙_}
 use mathlib.Core.Bool.{Bool, true, false, _&&_}
-use mathlib.Core.List.{List, map}
+use mathlib.Core.List.{List}
 use Prim.Native.Nat.{ℕ, _<_}
 use lib.ListN.{length, getD, length-map}
-use Rattle.lists.specs.Lists.{hit, find, keep, anyOf}
+use Rattle.lists.specs.Lists.{keep}
 use Rattle.lists.specs.TestLaws.{none-at, at-none}
 use Rattle.rules.specs.declared.VolumeNo.{VolumeNo}
 use Rattle.rules.specs.declared.Volume.{Volume}
-use Rattle.rules.specs.declared.Entry.{Entry}
 use Rattle.rules.specs.declared.Token.{Token}
 use Rattle.rules.specs.declared.Tables.{Tables}
 use Rattle.rules.specs.Fresh.{noVolume, freshVolume, freshEntry, freshToken}
-use Rattle.rules.specs.Tables.{usedVolume, usedToken, isVolume, isToken, withVolumes, withTokens, cleared}
+use Rattle.rules.specs.Tables.{usedVolume, usedToken, isVolume, withTokens, cleared}
 use Rattle.rules.specs.Relays.{lightened}
 use Rattle.rules.specs.VolumeCalls.{dropEntries}
 use Rattle.rules.specs.Advance.{isOneOf, entryOfOne, tokenOfOne, collect}
@@ -74,13 +73,13 @@ module _ (p : Volume → Bool) (t : Tables) where
         numbers = clash-cleared p freshVolume sameVolume (t .volumes) (λ y. refl) (λ x. no-zero (x .no .0)) (s .volume-numbers);
         names = clash-cleared p freshVolume sameName (t .volumes) (λ y. refl) name-fresh (s .volume-names);
         entries = λ j h.
-          stays-found p (t .volumes) (getD (cleared (entryOfOne gone) freshEntry (t .entries)) j freshEntry .volume)
-          (none-at (entryOfOne gone) (cleared (entryOfOne gone) freshEntry (t .entries))
-          (none-cleared (entryOfOne gone) freshEntry (t .entries) (none-of-zero p (t .volumes))) j h freshEntry);
+            stays-found p (t .volumes) (getD (cleared (entryOfOne gone) freshEntry (t .entries)) j freshEntry .volume)
+            (none-at (entryOfOne gone) (cleared (entryOfOne gone) freshEntry (t .entries))
+            (none-cleared (entryOfOne gone) freshEntry (t .entries) (none-of-zero p (t .volumes))) j h freshEntry);
         tokens = λ j h w.
-          stays-found p (t .volumes) (getD (cleared (tokenOfOne gone) freshToken (t .tokens)) j freshToken .volume)
-          (rw w at (none-at (tokenOfOne gone) (cleared (tokenOfOne gone) freshToken (t .tokens))
-          (none-cleared (tokenOfOne gone) freshToken (t .tokens) refl) j h freshToken));
+            stays-found p (t .volumes) (getD (cleared (tokenOfOne gone) freshToken (t .tokens)) j freshToken .volume)
+            (rw w at (none-at (tokenOfOne gone) (cleared (tokenOfOne gone) freshToken (t .tokens))
+            (none-cleared (tokenOfOne gone) freshToken (t .tokens) refl) j h freshToken));
       }
 
   collect-rest : Rest t → FamilyInOneVolume t → Rest (collect p t)

@@ -1,13 +1,13 @@
 -- A volume's number, owner, name, K, M and cap last as long as the volume does, and the other rows read nothing else of it. So volumes
 -- that change in anything else leave the rest of the tables sound. Assumes nothing.
 use mathlib.Core.Path.{_≡_, refl, ap, sym, _∙_}
-use mathlib.Core.Bool.{Bool, true, false, _&&_}
+use mathlib.Core.Bool.{Bool, true, _&&_}
 use mathlib.Core.Logic.{⊎-elim}
 use mathlib.Core.List.{List, map}
 use Prim.Native.Nat.{ℕ, _<_}
 use lib.ListN.{length, getD}
 use Rattle.amount.specs.declared.Cap.{Cap}
-use Rattle.lists.specs.Lists.{Hit, miss, hit, firstRow, find, allOf, sumOf, noClash}
+use Rattle.lists.specs.Lists.{Hit, miss, hit, firstRow, find, noClash}
 use Rattle.lists.specs.Bytes.{sameBytes}
 use Rattle.lists.specs.BoolLaws.{pass-or-fail}
 use Rattle.lists.specs.SearchLaws.{miss-hit}
@@ -26,7 +26,7 @@ use Rattle.rules.specs.declared.Tables.{Tables}
 use Rattle.rules.specs.Fresh.{freshEntry, freshToken, freshRelay}
 use Rattle.rules.specs.Tables.{given, numbered, usedToken, isVolume, withVolumes}
 use Rattle.rules.specs.Relays.{shardSize, shardBytes, bytesOn}
-use Rattle.rules.specs.Sound.{soundVolume, soundEntry, soundToken, soundRelay, soundIn, soundPlacement, volumeThere, parentThere, sameVolume, sameName}
+use Rattle.rules.specs.Sound.{soundEntry, soundToken, soundRelay, soundIn, soundPlacement, volumeThere, parentThere, sameVolume, sameName}
 use Rattle.rules.specs.RowFacts.{free-token}
 use Rattle.rules.specs.RestParts.{Rest}
 use Rattle.rules.specs.MappedLaws.{mapHit, found-any, find-mapped}

@@ -37,5 +37,5 @@ pub mod AdvanceSound
 pub mod Coins
 pub mod LiveLaws
 pub mod AdvanceCoins
-pub mod CoinlessCalls
+pub mod UnmovedCoins
 pub mod CoinLaws

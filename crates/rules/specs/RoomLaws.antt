@@ -1,14 +1,14 @@
 -- Room and held shards after entries go: a relay has again what the placements give, and the rest of the tables stays sound. Assumes nothing.
 use mathlib.Core.Path.{_≡_, refl, _∙_}
-use mathlib.Core.Bool.{Bool, true, false, _&&_}
+use mathlib.Core.Bool.{Bool, true, false}
 use mathlib.Core.Logic.{⊎-elim}
-use mathlib.Core.List.{List, map}
+use mathlib.Core.List.{List}
 use Prim.Native.Nat.{ℕ, _+_, _-_}
 use native.Mathlib.Omega.{arith}
 use borrow.Author.Tests.{ltb-true, eqb-true, leb-true, le-leb, eq-eqb}
-use lib.Dec.{eqb, leb}
+use lib.Dec.{eqb}
 use lib.ListN.{getD}
-use Rattle.lists.specs.Lists.{keep, sumOf, noClash}
+use Rattle.lists.specs.Lists.{keep, sumOf}
 use Rattle.lists.specs.BoolLaws.{and-left, and-right, pass-or-fail, not-pass}
 use Rattle.lists.specs.TestLaws.{all-at}
 use Rattle.rules.specs.declared.RelayNo.{RelayNo}
@@ -21,7 +21,7 @@ use Rattle.rules.specs.Tables.{given, numbered, usedRelay, cleared}
 use Rattle.rules.specs.Relays.{bytesOn, shardsOn, lightened}
 use Rattle.rules.specs.VolumeCalls.{dropEntries}
 use Rattle.rules.specs.Sound.{soundEntry, soundToken, soundRelay, volumeThere, parentThere, sameEntry, sameRelayRow}
-use Rattle.rules.specs.RowFacts.{RelayFacts, relay-facts, facts-relay, free-relay, free-entry}
+use Rattle.rules.specs.RowFacts.{relay-facts, facts-relay, free-relay, free-entry}
 use Rattle.rules.specs.RestParts.{Rest}
 use Rattle.rules.specs.MappedLaws.{all-mapped, clash-mapped}
 use Rattle.rules.specs.ClearedLaws.{all-cleared, clash-cleared, sum-cleared}
@@ -73,15 +73,15 @@ module _ (p : Entry → Bool) (t : Tables) where
             fits = le-leb (r .used - sumOf bytes (keep p (t .entries))) (r .capacity) (omega (arith, leb-true (r .used) (r .capacity) (f .fits)));
             beat = f .beat;
             used =
-              eq-eqb (r .used - sumOf bytes (keep p (t .entries))) (sumOf bytes (cleared p freshEntry (t .entries)))
-              (left-of (sumOf bytes (cleared p freshEntry (t .entries))) (sumOf bytes (keep p (t .entries))) (sumOf bytes (t .entries)) (r .used)
-              (sum-cleared p freshEntry bytes (t .entries) (fresh-bytes (t .volumes) (r .no)))
-              (eqb-true (r .used) (sumOf bytes (t .entries)) (f .used)));
+                eq-eqb (r .used - sumOf bytes (keep p (t .entries))) (sumOf bytes (cleared p freshEntry (t .entries)))
+                (left-of (sumOf bytes (cleared p freshEntry (t .entries))) (sumOf bytes (keep p (t .entries))) (sumOf bytes (t .entries)) (r .used)
+                (sum-cleared p freshEntry bytes (t .entries) (fresh-bytes (t .volumes) (r .no)))
+                (eqb-true (r .used) (sumOf bytes (t .entries)) (f .used)));
             held =
-              eq-eqb (r .held - sumOf shards (keep p (t .entries))) (sumOf shards (cleared p freshEntry (t .entries)))
-              (left-of (sumOf shards (cleared p freshEntry (t .entries))) (sumOf shards (keep p (t .entries))) (sumOf shards (t .entries)) (r .held)
-              (sum-cleared p freshEntry shards (t .entries) (fresh-shards (r .no)))
-              (eqb-true (r .held) (sumOf shards (t .entries)) (f .held)));
+                eq-eqb (r .held - sumOf shards (keep p (t .entries))) (sumOf shards (cleared p freshEntry (t .entries)))
+                (left-of (sumOf shards (cleared p freshEntry (t .entries))) (sumOf shards (keep p (t .entries))) (sumOf shards (t .entries)) (r .held)
+                (sum-cleared p freshEntry shards (t .entries) (fresh-shards (r .no)))
+                (eqb-true (r .held) (sumOf shards (t .entries)) (f .held)));
           })
 
   -- entries go, and the rest of the tables stays sound

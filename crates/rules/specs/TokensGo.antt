@@ -1,13 +1,12 @@
 -- Tokens go, and with each that stays its parent stays: the rest of the tables stays sound, and families stay in one volume. Assumes nothing.
 use mathlib.Core.Path.{_≡_, refl, ap, sym, _∙_}
-use mathlib.Core.Bool.{Bool, true, false, _&&_, _||_, cond, true≢false}
+use mathlib.Core.Bool.{Bool, true, false, cond, true≢false}
 use mathlib.Core.Logic.{⊎-elim}
 use mathlib.Core.List.{List, [], _∷_}
 use Prim.Native.Nat.{ℕ, zero, suc, _<_}
-use lib.Dec.{eqb, leb}
 use lib.ListN.{length, getD}
-use Rattle.lists.specs.Lists.{Hit, miss, hit, find, anyOf}
-use Rattle.lists.specs.BoolLaws.{and-left, and-right, pass-or-fail}
+use Rattle.lists.specs.Lists.{Hit, miss, hit, find}
+use Rattle.lists.specs.BoolLaws.{pass-or-fail}
 use Rattle.lists.specs.SearchLaws.{found-below, found-at, row-passes}
 use Rattle.lists.specs.TestLaws.{all-at, all-weaker}
 use Rattle.rules.specs.declared.TokenNo.{TokenNo}
@@ -15,10 +14,10 @@ use Rattle.rules.specs.declared.Token.{Token}
 use Rattle.rules.specs.declared.Tables.{Tables}
 use Rattle.rules.specs.Limits.{deepest}
 use Rattle.rules.specs.Fresh.{freshToken}
-use Rattle.rules.specs.Tables.{given, numbered, usedToken, isToken, withTokens, cleared}
-use Rattle.rules.specs.Scope.{onHit, chain, depth}
+use Rattle.rules.specs.Tables.{numbered, usedToken, isToken, withTokens, cleared}
+use Rattle.rules.specs.Scope.{onHit, chain}
 use Rattle.rules.specs.Sound.{soundEntry, soundToken, soundRelay, parentThere, volumeThere, sameToken}
-use Rattle.rules.specs.RowFacts.{TokenFacts, token-facts, facts-token, free-token}
+use Rattle.rules.specs.RowFacts.{token-facts, facts-token, free-token}
 use Rattle.rules.specs.NumberLaws.{numbered-used}
 use Rattle.rules.specs.RestParts.{Rest}
 use Rattle.rules.specs.MappedLaws.{mapHit, found-any}
@@ -34,7 +33,7 @@ found-used n ks i k e = numbered-used (n .0) (k .no .0) (row-passes (isToken n) 
 -- the parent of each token that stays, stays
 abbrev pub ParentsStay : (Token → Bool) → List Token → Type 0
 ParentsStay gone ks = (j : ℕ) → j < length ks → usedToken (getD ks j freshToken) ≡ true → gone (getD ks j freshToken) ≡ false
-  → (i : ℕ) (k : Token) → find (isToken (getD ks j freshToken .parent)) ks ≡ hit i k → gone k ≡ false
+    → (i : ℕ) (k : Token) → find (isToken (getD ks j freshToken .parent)) ks ≡ hit i k → gone k ≡ false
 
 module _ (gone : Token → Bool) (ks : List Token) (stay : ParentsStay gone ks) where
   -- what is found of a parent
@@ -108,8 +107,8 @@ module _ (gone : Token → Bool) (t : Tables) (stay : ParentsStay gone (t .token
         entries = all-weaker (soundEntry t) (soundEntry u) (t .entries) (λ x h. entry-same t u refl x refl ∙ h) (s .entries);
         entry-paths = s .entry-paths;
         tokens =
-          all-cleared gone freshToken (soundToken u) (t .tokens) freshToken (free-token u freshToken refl)
-          (λ j b g. token-stays j b g (all-at (soundToken t) (t .tokens) (s .tokens) j b freshToken));
+            all-cleared gone freshToken (soundToken u) (t .tokens) freshToken (free-token u freshToken refl)
+            (λ j b g. token-stays j b g (all-at (soundToken t) (t .tokens) (s .tokens) j b freshToken));
         token-numbers = clash-cleared gone freshToken sameToken (t .tokens) (λ y. refl) (λ x. no-zero (x .no .0)) (s .token-numbers);
         relays = s .relays;
         relay-numbers = s .relay-numbers;
