@@ -68,7 +68,8 @@ module _ (t : Tables) where
       (sum-plus keptIn (rentIn t) liveIn (t .volumes) settled-live)
 
   -- the volumes after the rents have what they had but for the rents paid
-  rents-live : (end : Bool) → sumOf liveIn (t .volumes) ≡ sumOf liveIn (atEpoch end t .volumes) + cond end (sumOf (rentPaid t) (keep usedVolume (t .volumes))) 0
+  rents-live : (end : Bool)
+      → sumOf liveIn (t .volumes) ≡ sumOf liveIn (atEpoch end t .volumes) + cond end (sumOf (rentPaid t) (keep usedVolume (t .volumes))) 0
   unfolding atEpoch settle
   rents-live true = settle-pays
   rents-live false = omega arith
@@ -115,7 +116,8 @@ module _ (t : Tables) (block : ℕ) where
   advanced-coins =
       let vs = afterRents t block in
       let left = cleared (isDue block) freshVolume vs in
-      let a : liveBalances (advanced t block) ≡ sumOf liveIn left = ap (λ (l : List Volume). sumOf balanceOf (keep usedVolume l)) advanced-volumes ∙ live-sum left in
+      let a : liveBalances (advanced t block) ≡ sumOf liveIn left =
+      ap (λ (l : List Volume). sumOf balanceOf (keep usedVolume l)) advanced-volumes ∙ live-sum left in
       omega (
         arith,
         live-sum (t .volumes),

@@ -44,7 +44,15 @@ module _ (t : Tables) (block : ℕ) (later : t .clock ≤ block) (limit : block 
       let u = withClock t block in
       let f = count-facts t (p .counts) in
       record {
-        counts = facts-counts u (record { clock = le-leb block clockLimit limit; deposits = f .deposits; volumes = f .volumes; tokens = f .tokens; relays = f .relays });
+        counts =
+            facts-counts u
+            (record {
+              clock = le-leb block clockLimit limit;
+              deposits = f .deposits;
+              volumes = f .volumes;
+              tokens = f .tokens;
+              relays = f .relays;
+            });
         volumes = all-weaker (soundVolume t) (soundVolume u) (t .volumes) (volume-grown t u clock-grown) (p .volumes);
         volume-numbers = p .volume-numbers;
         volume-names = p .volume-names;
@@ -77,7 +85,8 @@ module _ (t : Tables) where
         relays =
             all-cleared (isDead (t .clock)) freshRelay (soundRelay u) (t .relays) freshRelay (free-relay u freshRelay refl)
             (λ j b n. all-at (soundRelay t) (t .relays) (p .relays) j b freshRelay);
-        relay-numbers = clash-cleared (isDead (t .clock)) freshRelay sameRelayRow (t .relays) (λ y. refl) (λ x. no-zero (x .no .0)) (p .relay-numbers);
+        relay-numbers =
+            clash-cleared (isDead (t .clock)) freshRelay sameRelayRow (t .relays) (λ y. refl) (λ x. no-zero (x .no .0)) (p .relay-numbers);
       }
 
   leave-shape : Shape t → Shape (relaysLeave t)
@@ -120,7 +129,11 @@ module _ (block : ℕ) (t : Tables) (s : Invariant t) where
       let u = withClock t block in
       let g = clock-grown t block later limit in
       due-follows t (relaysLeave u)
-      (record { parts = leave-parts u (clock-parts t block later limit (s .parts)); shape = leave-shape u (clock-shape t block later limit (s .shape)); family = s .family })
+      (record {
+        parts = leave-parts u (clock-parts t block later limit (s .parts));
+        shape = leave-shape u (clock-shape t block later limit (s .shape));
+        family = s .family;
+      })
       (record { clock = g .clock; volumes = g .volumes; tokens = g .tokens; relays = g .relays })
       (leb 1 (epochEnds (t .clock) block))
 

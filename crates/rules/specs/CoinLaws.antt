@@ -33,7 +33,8 @@ use Rattle.rules.specs.UnmovedCoins.{Unmoved, create-coins, delete-coins
 
 -- a call that answers a on the tables t and leaves u: what it brings in, pays and sends back, where it is accepted, accounts for the balances
 record Books (m : Move) (t : Tables) (a : Answer) (u : Tables) : Type 0 where
-  coins : liveBalances t + cond (isAccepted a) (coinsIn m t) 0 ≡ liveBalances u + cond (isAccepted a) (coinsPaid m t) 0 + cond (isAccepted a) (coinsBack m t) 0
+  coins : liveBalances t + cond (isAccepted a) (coinsIn m t) 0
+      ≡ liveBalances u + cond (isAccepted a) (coinsPaid m t) 0 + cond (isAccepted a) (coinsBack m t) 0
   deposited : u .deposits ≡ t .deposits + cond (isAccepted a) (coinsIn m t) 0
 
 refused-books : (m : Move) (t : Tables) (n : ℕ) → eqb n 0 ≡ false → Books m t (refusal n) t
@@ -48,7 +49,8 @@ unmoved-books t u a e = record {
 advance-books : (block : ℕ) (t : Tables) → Books (advances block) t (advanceRule block t .answer) (advanceRule block t .tables)
 unfolding advanceRule advanced
 advance-books block t =
-    cond-case (λ o. Books (advances block) t (o .answer) (o .tables)) (badBlock (t .clock) block) (refused t CLOCK) (accepted block (advanced t block))
+    cond-case (λ o. Books (advances block) t (o .answer) (o .tables)) (badBlock (t .clock) block) (refused t CLOCK)
+    (accepted block (advanced t block))
     (λ e. refused-books (advances block) t CLOCK refl)
     (λ e. record {
       coins = omega (arith, advanced-coins t block);

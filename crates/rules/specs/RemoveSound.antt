@@ -45,15 +45,19 @@ module _ (P : Tables → Type 0) (a : Account) (n : VolumeNo) (path : List ℕ) 
   unfolding removeEntry
   entry-case i v e miss = before
   entry-case i v e (hit j x) =
-      cond-case (λ o. P (o .tables)) (leb lastVersion (v .version)) (refused t SPENT) (accepted (v .version + 1) (removed t path i v)) (λ b. before) (λ b. after i v e)
+      cond-case (λ o. P (o .tables)) (leb lastVersion (v .version)) (refused t SPENT) (accepted (v .version + 1) (removed t path i v))
+      (λ b. before) (λ b. after i v e)
 
   volume-case : (h : Hit Volume) → find (isVolume n) (t .volumes) ≡ h → P (removeIn t a path h .tables)
   unfolding removeIn
   volume-case miss e = before
   volume-case (hit i v) e =
       let last = removeEntry t path i v (entryOf (v .no) path t) in
-      cond-case (λ o. P (o .tables)) (not (ownedBy a v)) (refused t NOT-OWNER) (cond (not (isOpen (v .status))) (refused t STATE) last) (λ b. before)
-      (λ b. cond-case (λ o. P (o .tables)) (not (isOpen (v .status))) (refused t STATE) last (λ c. before) (λ c. entry-case i v e (entryOf (v .no) path t)))
+      let stated = cond (not (isOpen (v .status))) (refused t STATE) last in
+      cond-case (λ o. P (o .tables)) (not (ownedBy a v)) (refused t NOT-OWNER) stated (λ b. before)
+      (λ b.
+      cond-case (λ o. P (o .tables)) (not (isOpen (v .status))) (refused t STATE) last (λ c. before)
+      (λ c. entry-case i v e (entryOf (v .no) path t)))
 
   pub remove-cases : P (removeRule a n path t .tables)
   unfolding removeRule volumeOf

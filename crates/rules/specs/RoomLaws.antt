@@ -89,14 +89,18 @@ module _ (p : Entry → Bool) (t : Tables) where
   unfolding dropEntries soundToken volumeThere parentThere lightened
   drop-rest s =
       let u = dropEntries p t in
+      let lighter = lightened (t .volumes) (keep p (t .entries)) in
       record {
         counts = s .counts;
         volume-numbers = s .volume-numbers;
         volume-names = s .volume-names;
-        entries = all-cleared p freshEntry (soundEntry u) (t .entries) freshEntry (free-entry u freshEntry refl) (λ j h n. entry-same t u refl (getD (t .entries) j freshEntry) refl ∙ all-at (soundEntry t) (t .entries) (s .entries) j h freshEntry);
+        entries =
+            all-cleared p freshEntry (soundEntry u) (t .entries) freshEntry (free-entry u freshEntry refl)
+            (λ j h n.
+            entry-same t u refl (getD (t .entries) j freshEntry) refl ∙ all-at (soundEntry t) (t .entries) (s .entries) j h freshEntry);
         entry-paths = clash-cleared p freshEntry sameEntry (t .entries) fresh-path path-fresh (s .entry-paths);
         tokens = s .tokens;
         token-numbers = s .token-numbers;
-        relays = all-mapped (lightened (t .volumes) (keep p (t .entries))) (soundRelay t) (soundRelay u) (t .relays) freshRelay (λ j h e. relay-lightened _ e) (s .relays);
-        relay-numbers = clash-mapped (lightened (t .volumes) (keep p (t .entries))) sameRelayRow sameRelayRow (t .relays) (λ x y e. e) (s .relay-numbers);
+        relays = all-mapped lighter (soundRelay t) (soundRelay u) (t .relays) freshRelay (λ j h e. relay-lightened _ e) (s .relays);
+        relay-numbers = clash-mapped lighter sameRelayRow sameRelayRow (t .relays) (λ x y e. e) (s .relay-numbers);
       }
