@@ -41,8 +41,8 @@ module _ {A : Type 0} where
   found-passes p q l i x a e = rw (found-at p l i x e x) at (all-at q l a i (found-below p l i x e) x)
 
   -- some row passes where one is found
-  pub found-any : (p : A → Bool) (l : List A) (i : ℕ) (x : A) → find p l ≡ hit i x → anyOf p l ≡ true
-  found-any p l i x e = at-any p l i x (found-below p l i x e) (rw (found-at p l i x e x) (row-passes p l 0 i x e))
+  pub found-some : (p : A → Bool) (l : List A) (i : ℕ) (x : A) → find p l ≡ hit i x → anyOf p l ≡ true
+  found-some p l i x e = at-any p l i x (found-below p l i x e) (rw (found-at p l i x e x) (row-passes p l 0 i x e))
 
   -- a row's number finds the row
   pub number-found : (f : A → ℕ) (l : List A) (d : A) → noClash (sameNumber f) l ≡ true → (n j : ℕ) → j < length l
