@@ -32,3 +32,6 @@ pub mod RoomLaws
 pub mod TokensGo
 pub mod OutcomeCases
 pub mod RemoveSound
+pub mod HeldText
+pub mod TokensFollow
+pub mod VolumeSound
