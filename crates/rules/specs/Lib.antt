@@ -35,3 +35,5 @@ pub mod RemoveSound
 pub mod HeldText
 pub mod TokensFollow
 pub mod VolumeSound
+pub mod ChainLaws
+pub mod TokenSound
