@@ -4,12 +4,18 @@ use mathlib.Core.Path.{_≡_, refl}
 use mathlib.Core.Bool.{true}
 use Prim.Native.Nat.{ℕ}
 use native.Mathlib.Omega.{arith}
+use lib.ListN.{length}
 use Rattle.lists.specs.TestLaws.{all-weaker}
+use Rattle.rules.specs.declared.Session.{Session}
 use Rattle.rules.specs.declared.Tables.{Tables}
-use Rattle.rules.specs.Sound.{soundCounts, soundVolume, soundEntry, soundToken, soundRelay}
+use Rattle.rules.specs.declared.SlotOutcome.{SlotOutcome}
+use Rattle.rules.specs.Limits.{putRows}
+use Rattle.rules.specs.Fresh.{freshSession}
+use Rattle.rules.specs.Sound.{soundCounts, soundVolume, soundEntry, soundToken, soundRelay, soundSession}
 use Rattle.rules.specs.SoundParts.{Parts}
 use Rattle.rules.specs.Shape.{Shape}
 use Rattle.rules.specs.Family.{FamilyInOneVolume}
+use Rattle.rules.specs.RowFacts.{idle-session}
 use Rattle.rules.specs.RowsKept.{Grown, grown-self, volume-grown, entry-grown, token-stays, relay-grown}
 
 pub record Invariant (t : Tables) : Type 0 where
@@ -75,3 +81,17 @@ counts-grow t c v k r d i g s =
         };
       };
     }
+
+-- a slot: its session is sound, and it has its 8 places for puts
+pub record SlotSound (t : Tables) (s : Session) : Type 0 where
+  pub session : soundSession t s ≡ true
+  pub places : length (s .puts) ≡ putRows
+
+-- a call on a slot leaves tables that may follow, and a sound slot
+pub record SlotFollows (t : Tables) (o : SlotOutcome) : Type 0 where
+  pub tables : Follows t (o .tables)
+  pub slot : SlotSound (o .tables) (o .session)
+
+-- a freed slot
+pub fresh-slot : (t : Tables) → SlotSound t freshSession
+fresh-slot t = record { session = idle-session t freshSession refl; places = refl }

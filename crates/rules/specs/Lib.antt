@@ -37,3 +37,4 @@ pub mod TokensFollow
 pub mod VolumeSound
 pub mod ChainLaws
 pub mod TokenSound
+pub mod SessionSound

@@ -94,7 +94,7 @@ module _ (t : Tables) (inv : Invariant t) (room : t .«last_token» < lastNumber
     found-same : (x : TokenNo) → x .0 ≤ t .«last_token» → find (isToken x) ks ≡ find (isToken x) (t .tokens)
     found-same x h =
         let z : getD (t .tokens) i freshToken .no .0 ≡ 0 =
-          rw (found-at freeToken (t .tokens) i old found freshToken) (eqb-true (old .no .0) 0 (row-passes freeToken (t .tokens) 0 i old found)) in
+        rw (found-at freeToken (t .tokens) i old found freshToken) (eqb-true (old .no .0) 0 (row-passes freeToken (t .tokens) 0 i old found)) in
         find-set (isToken x) (t .tokens) 0 i k freshToken (rw z (no-zero (x .0))) (numbered-other (x .0) (k .no .0) (λ e. omega arith))
 
     chains-same : (m : ℕ) (x : Token) → x .parent .0 ≤ t .«last_token» → chain m ks x ≡ chain m (t .tokens) x
@@ -124,11 +124,13 @@ module _ (t : Tables) (inv : Invariant t) (room : t .«last_token» < lastNumber
       where
         inside : j < length (t .tokens)
         inside = rw (length-set (t .tokens) i k) at b
+
         new : eqb j i ≡ true → p .volume ≡ getD ks j freshToken .volume
         new s =
             let z : j ≡ i = eqb-true j i s in
             let r : getD ks j freshToken ≡ k = rw z (getD-set-same (t .tokens) i k freshToken (rw z at inside)) in
             rw r (q m p (sym (found-same (k .parent) above) ∙ rw r at e))
+
         other : eqb j i ≡ false → p .volume ≡ getD ks j freshToken .volume
         other s =
             let x = getD (t .tokens) j freshToken in
@@ -228,10 +230,12 @@ grant-follows a v s t inv =
   where
     P : TablesOutcome → Type 0
     P o = Follows t (o .tables)
+
     there : (j : ℕ) (x : Volume) → find (isVolume v) (t .volumes) ≡ hit j x → anyOf (isVolume (x .no)) (t .volumes) ≡ true
     there j x e =
         let q : x .no ≡ v = ap (λ y. record { 0 = y }) (numbered-eq (v .0) (x .no .0) (row-passes (isVolume v) (t .volumes) 0 j x e)) in
         ap (λ y. anyOf (isVolume y) (t .volumes)) q ∙ found-some (isVolume v) (t .volumes) j x e
+
     go : scopeFits s ≡ true → (h : Hit Volume) → find (isVolume v) (t .volumes) ≡ h → P (grantIn t a s h)
     go b miss e = follows-self inv
     go b (hit j x) e =
@@ -246,6 +250,7 @@ attenuate-follows m s t inv =
   where
     P : TablesOutcome → Type 0
     P o = Follows t (o .tables)
+
     go : scopeFits s ≡ true → (h : Hit Token) → tokenOf m t ≡ h → P (attenuateIn t s h)
     go b miss e = follows-self inv
     go b (hit j p) e =
@@ -265,7 +270,7 @@ revoke-stay t inv m j b w g i p e =
     let same : chain 8 (t .tokens) p ≡ chain 7 (t .tokens) p = chain-ended (t .tokens) 7 p (omega arith) in
     let stands : anyOf (isToken m) (chain 7 (t .tokens) p) ≡ true = rw same at (and-right (usedToken p) (anyOf (isToken m) (family (t .tokens) p)) h) in
     let too : anyOf (isToken m) (chain 8 (t .tokens) k) ≡ true =
-      rw (chain-parent (t .tokens) 7 k i p e) (or-last (isToken m k) (anyOf (isToken m) (chain 7 (t .tokens) p)) stands) in
+    rw (chain-parent (t .tokens) 7 k i p e) (or-last (isToken m k) (anyOf (isToken m) (chain 7 (t .tokens) p)) stands) in
     not-both (and-both w too) g)
 
 pub revoke-follows : (a : Account) (m : TokenNo) (t : Tables) → Invariant t → Follows t (revokeRule a m t .tables)
@@ -274,11 +279,13 @@ revoke-follows a m t inv = go (tokenOf m t)
   where
     P : TablesOutcome → Type 0
     P o = Follows t (o .tables)
+
     owner : (k : Token) (h : Hit Volume) → P (revokeOwner t a k h)
     owner k miss = follows-self inv
     owner k (hit i x) =
         cond-case P (not (ownedBy a x)) (refused t NOT-OWNER) _ (λ b. follows-self inv)
         (λ b. tokens-leave t (descends (t .tokens) (k .no)) (revoke-stay t inv (k .no)) inv)
+
     go : (h : Hit Token) → P (revokeIn t a h)
     go miss = follows-self inv
     go (hit i k) = owner k (volumeOf (k .volume) t)
@@ -291,9 +298,11 @@ look-follows m path t inv =
   where
     P : TablesOutcome → Type 0
     P o = Follows t (o .tables)
+
     entry : (h : Hit Entry) → P (lookEntry t h)
     entry miss = follows-self inv
     entry (hit i e) = follows-self inv
+
     go : (h : Hit Token) → P (lookIn t path h)
     go miss = follows-self inv
     go (hit i k) =
