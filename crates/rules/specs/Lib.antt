@@ -41,3 +41,4 @@ pub mod SessionSound
 pub mod CommitSlot
 pub mod StaysSound
 pub mod FreshSound
+pub mod OneVolumeNeeded
