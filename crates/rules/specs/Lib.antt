@@ -38,7 +38,6 @@ pub mod VolumeSound
 pub mod ChainLaws
 pub mod TokenSound
 pub mod SessionSound
-pub mod CommitSlot
 pub mod StaysSound
 pub mod FreshSound
 pub mod OneVolumeNeeded

@@ -33,12 +33,11 @@ use Rattle.rules.specs.Family.{FamilyInOneVolume}
 use Rattle.rules.specs.SetLaws.{all-set}
 use Rattle.rules.specs.BranchLaws.{cond-case}
 use Rattle.rules.specs.RowsKept.{session-grown}
-use Rattle.rules.specs.Invariant.{Invariant, Follows, SlotSound, SlotFollows, fresh-slot}
+use Rattle.rules.specs.Invariant.{Invariant, Follows, SlotSound, SlotFollows}
 use Rattle.rules.specs.VolumeSound.{create-follows, deposit-follows, delete-follows, undelete-follows}
 use Rattle.rules.specs.TokenSound.{grant-follows, attenuate-follows, revoke-follows, look-follows}
 use Rattle.rules.specs.RelaySound.{register-follows, heartbeat-follows}
 use Rattle.rules.specs.SessionSound.{open-follows, stage-follows, abandon-follows}
-use Rattle.rules.specs.CommitSlot.{commit-slot}
 
 -- a slot has its places for puts
 abbrev pub hasPlaces : Session → Bool
@@ -95,7 +94,7 @@ module _ (d : Desk) (i : DeskInvariant d) where
 -- what advance, remove and commit keep
 module _ (advances : (block : ℕ) (t : Tables) → Invariant t → Follows t (advanceRule block t .tables))
     (removes : (a : Account) (n : VolumeNo) (path : List ℕ) (t : Tables) → Invariant t → Follows t (removeRule a n path t .tables))
-    (commits-follow : (t : Tables) → Invariant t → (s : Session) → soundSession t s ≡ true → Follows t (commitRule t s .tables)) where
+    (finishes : (t : Tables) → Invariant t → (s : Session) → SlotSound t s → SlotFollows t (commitRule t s)) where
   ask-follows : (a : Ask) (t : Tables) → Invariant t → Follows t (askRule a t .tables)
   unfolding askRule
   ask-follows (advance block) = advances block
@@ -111,21 +110,11 @@ module _ (advances : (block : ℕ) (t : Tables) → Invariant t → Follows t (a
   ask-follows (register capacity) = register-follows capacity
   ask-follows (heartbeat r) = heartbeat-follows r
 
-  commit-follows : (t : Tables) → Invariant t → (s : Session) → SlotSound t s → SlotFollows t (commitRule t s)
-  commit-follows t inv s h =
-      let f = commits-follow t inv s (h .session) in
-      let u = commitRule t s .tables in
-      record {
-        tables = f;
-        slot =
-            commit-slot (SlotSound u) t s (record { session = session-grown t u (f .grown) s (h .session); places = h .places }) (fresh-slot u);
-      }
-
   work-follows : (w : Work) (t : Tables) → Invariant t → (s : Session) → SlotSound t s → SlotFollows t (workRule w t s)
   unfolding workRule
   work-follows (opens k) t inv = open-follows t inv k
   work-follows (stages path size h) t inv = stage-follows t inv path size h
-  work-follows commits t inv = commit-follows t inv
+  work-follows commits t inv = finishes t inv
   work-follows abandons t inv = abandon-follows t inv
 
   rule-stays : (c : Call) (d : Desk) → DeskInvariant d → DeskInvariant (rule c d .desk)
