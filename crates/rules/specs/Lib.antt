@@ -15,3 +15,6 @@ pub mod SessionCalls
 pub mod Commit
 pub mod Calls
 pub mod SoundParts
+pub mod BranchLaws
+pub mod TakeLaws
+pub mod PlaceLaws
