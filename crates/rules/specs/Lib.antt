@@ -18,3 +18,8 @@ pub mod SoundParts
 pub mod BranchLaws
 pub mod TakeLaws
 pub mod PlaceLaws
+pub mod Shape
+pub mod MappedLaws
+pub mod ClearedLaws
+pub mod RestParts
+pub mod LastingLaws

@@ -1,0 +1,104 @@
+-- Laws of cleared: the rows that pass a test are as fresh ones, and the others stay. Assumes nothing.
+use mathlib.Core.Path.{_≡_, refl, ap₂, sym, _∙_}
+use mathlib.Core.Bool.{Bool, true, false, cond}
+use mathlib.Core.Logic.{⊎-elim}
+use mathlib.Core.List.{List, [], _∷_, map}
+use Prim.Native.Nat.{ℕ, zero, suc, _+_, _<_}
+use native.Mathlib.Nat.{le-of-suc-le-suc, not-suc-le-zero}
+use native.Mathlib.Omega.{arith}
+use lib.ListN.{length, getD, length-map}
+use Rattle.lists.specs.Lists.{bit, Hit, hit, firstRow, allOf, anyOf, countIf, keep, sumOf, noClash}
+use Rattle.lists.specs.BoolLaws.{and-both, or-none, pass-or-fail, not-both}
+use Rattle.rules.specs.Tables.{cleared}
+use Rattle.rules.specs.MappedLaws.{all-mapped, clash-mapped}
+
+-- a row, or a fresh one where the row passes the test
+abbrev pub orFresh : {A : Type 0} → (A → Bool) → A → A → A
+orFresh p z x = cond (p x) z x
+
+module _ {A : Type 0} (p : A → Bool) (z : A) where
+  -- every row is changed by one function
+  pub cleared-map : (l : List A) → cleared p z l ≡ map (orFresh p z) l
+  unfolding cleared
+  cleared-map [] = refl
+  cleared-map (x ∷ xs) = ap₂ _∷_ refl (cleared-map xs)
+
+  pub length-cleared : (l : List A) → length (cleared p z l) ≡ length l
+  length-cleared l = rw (cleared-map l) (length-map l (orFresh p z))
+
+  -- the row at an index
+  pub cleared-at : (l : List A) (j : ℕ) (d : A) → j < length l → getD (cleared p z l) j d ≡ orFresh p z (getD l j d)
+  unfolding cleared
+  cleared-at [] j d h = absurd (not-suc-le-zero h)
+  cleared-at (x ∷ xs) zero d h = refl
+  cleared-at (x ∷ xs) (suc j) d h = cleared-at xs j d (le-of-suc-le-suc h)
+
+  -- no row passes the test of those that went
+  none-orFresh : (b : Bool) (x : A) → p x ≡ b → p z ≡ false → p (cond b z x) ≡ false
+  none-orFresh true x e f = f
+  none-orFresh false x e f = e
+
+  pub none-cleared : (l : List A) → p z ≡ false → anyOf p (cleared p z l) ≡ false
+  unfolding anyOf cleared
+  none-cleared [] f = refl
+  none-cleared (x ∷ xs) f = or-none (none-orFresh (p x) x refl f) (none-cleared xs f)
+
+  -- every row passes where a fresh one does and each that stays does
+  all-orFresh : (q : A → Bool) (b : Bool) (x : A) → q z ≡ true → (b ≡ false → q x ≡ true) → q (cond b z x) ≡ true
+  all-orFresh q true x e h = e
+  all-orFresh q false x e h = h refl
+
+  pub all-cleared : (q r : A → Bool) (l : List A) (d : A) → r z ≡ true
+      → ((j : ℕ) → j < length l → p (getD l j d) ≡ false → q (getD l j d) ≡ true → r (getD l j d) ≡ true) → allOf q l ≡ true
+      → allOf r (cleared p z l) ≡ true
+  all-cleared q r l d e h a =
+      rw (cleared-map l)
+      (all-mapped (orFresh p z) q r l d (λ j k s. all-orFresh r (p (getD l j d)) (getD l j d) e (λ f. h j k f s)) a)
+
+  -- no row clashes where a fresh one clashes with none
+  clash-orFresh : (c : A → A → Bool) (a b : Bool) (x y : A) → ((y : A) → c z y ≡ false) → ((x : A) → c x z ≡ false) → c x y ≡ false
+      → c (cond a z x) (cond b z y) ≡ false
+  clash-orFresh c true b x y f g e = f (cond b z y)
+  clash-orFresh c false true x y f g e = g x
+  clash-orFresh c false false x y f g e = e
+
+  pub clash-cleared : (c : A → A → Bool) (l : List A) → ((y : A) → c z y ≡ false) → ((x : A) → c x z ≡ false) → noClash c l ≡ true
+      → noClash c (cleared p z l) ≡ true
+  clash-cleared c l f g e =
+      rw (cleared-map l) (clash-mapped (orFresh p z) c c l (λ x y k. clash-orFresh c (p x) (p y) x y f g k) e)
+
+  -- a search that finds no fresh row and none that went finds what it found
+  find-orFresh : (q : A → Bool) (b : Bool) (k : ℕ) (x : A) (h : Hit A) → q z ≡ false → (b ≡ true → q x ≡ false)
+      → cond (q (cond b z x)) (hit k (cond b z x)) h ≡ cond (q x) (hit k x) h
+  find-orFresh q true k x h f n = rw (f, n refl)
+  find-orFresh q false k x h f n = refl
+
+  pub find-cleared : (q : A → Bool) (k : ℕ) (l : List A) (d : A) → q z ≡ false
+      → ((j : ℕ) → j < length l → p (getD l j d) ≡ true → q (getD l j d) ≡ false) → firstRow q k (cleared p z l) ≡ firstRow q k l
+  unfolding firstRow cleared
+  find-cleared q k [] d f n = refl
+  find-cleared q k (x ∷ xs) d f n =
+      rw (find-cleared q (suc k) xs d f (λ j h. n (suc j) (omega arith)))
+      (find-orFresh q (p x) k x (firstRow q (suc k) xs) f (n 0 (omega arith)))
+
+  -- a sum: what stays and what went are the whole
+  sum-orFresh : (f : A → ℕ) (b : Bool) (x : A) (l : List A) → f z ≡ 0 → f (cond b z x) + sumOf f (cond b (x ∷ l) l) ≡ f x + sumOf f l
+  unfolding sumOf
+  sum-orFresh f true x l e = rw e (omega arith)
+  sum-orFresh f false x l e = refl
+
+  pub sum-cleared : (f : A → ℕ) (l : List A) → f z ≡ 0 → sumOf f (cleared p z l) + sumOf f (keep p l) ≡ sumOf f l
+  unfolding sumOf cleared keep
+  sum-cleared f [] e = refl
+  sum-cleared f (x ∷ xs) e = omega (arith, sum-orFresh f (p x) x (keep p xs) e, sum-cleared f xs e)
+
+  -- a count
+  count-orFresh : (q : A → Bool) (b : Bool) (x : A) (l : List A) → q z ≡ false → bit (q (cond b z x)) + countIf q (cond b (x ∷ l) l) ≡ bit (q x) + countIf q l
+  unfolding countIf
+  count-orFresh q true x l e = rw e (omega arith)
+  count-orFresh q false x l e = refl
+
+  pub count-cleared : (q : A → Bool) (l : List A) → q z ≡ false → countIf q (cleared p z l) + countIf q (keep p l) ≡ countIf q l
+  unfolding countIf cleared keep
+  count-cleared q [] e = refl
+  count-cleared q (x ∷ xs) e = omega (arith, count-orFresh q (p x) x (keep p xs) e, count-cleared q xs e)

@@ -1,0 +1,164 @@
+-- What the other rows read of a volume: its number, owner, name, K and M, which last as long as the volume does. Volumes that change in
+-- anything else leave the rest of the tables sound, and so do volumes that go where no entry and no token is theirs. Assumes nothing.
+use mathlib.Core.Path.{_≡_, refl, ap, sym, _∙_}
+use mathlib.Core.Bool.{Bool, true, false, _&&_}
+use mathlib.Core.Logic.{⊎-elim}
+use mathlib.Core.List.{List, map}
+use Prim.Native.Nat.{ℕ, _<_}
+use lib.ListN.{length, getD}
+use Rattle.lists.specs.Lists.{Hit, miss, hit, firstRow, find, allOf, anyOf, sumOf, noClash}
+use Rattle.lists.specs.Bytes.{sameBytes}
+use Rattle.lists.specs.BoolLaws.{same-test, pass-or-fail}
+use Rattle.lists.specs.SearchLaws.{FoundRow, found-row, some-found, none-miss, miss-hit}
+use Rattle.lists.specs.RowLaws.{map-agree, sum-same, all-same, clash-map}
+use Rattle.text.specs.declared.Text.{Text}
+use Rattle.text.specs.Text.{textBytes}
+use Rattle.rules.specs.declared.VolumeNo.{VolumeNo}
+use Rattle.rules.specs.declared.RelayNo.{RelayNo}
+use Rattle.rules.specs.declared.Account.{Account}
+use Rattle.rules.specs.declared.Placement.{Placement}
+use Rattle.rules.specs.declared.Volume.{Volume}
+use Rattle.rules.specs.declared.Entry.{Entry}
+use Rattle.rules.specs.declared.Token.{Token}
+use Rattle.rules.specs.declared.Relay.{Relay}
+use Rattle.rules.specs.declared.Tables.{Tables}
+use Rattle.rules.specs.Fresh.{freshEntry, freshToken, freshRelay}
+use Rattle.rules.specs.Tables.{given, numbered, isVolume, withVolumes}
+use Rattle.rules.specs.Relays.{shardSize, shardBytes, bytesOn}
+use Rattle.rules.specs.Sound.{soundVolume, soundEntry, soundToken, soundRelay, soundIn, soundPlacement, volumeThere, parentThere, sameVolume, sameName}
+use Rattle.rules.specs.RestParts.{Rest}
+use Rattle.rules.specs.MappedLaws.{mapHit, find-mapped}
+
+pub record Lasting : Type 0 where
+  pub no : VolumeNo
+  pub owner : Account
+  pub name : Text
+  pub k : ℕ
+  pub m : ℕ
+
+abbrev pub lasting : Volume → Lasting
+lasting v = record { no = v .no; owner = v .owner; name = v .name; k = v .k; m = v .m }
+
+-- what the entries and tokens of a volume of this number read of the table
+abbrev pub lastingOf : List Volume → VolumeNo → Hit Lasting
+lastingOf vs n = mapHit lasting (find (isVolume n) vs)
+
+-- volumes whose rows are the same in what lasts
+abbrev isLasting : VolumeNo → Lasting → Bool
+isLasting n x = numbered (n .0) (x .no .0)
+
+abbrev sameLasting : Lasting → Lasting → Bool
+sameLasting a b = numbered (a .no .0) (b .no .0)
+
+abbrev sameNamed : Lasting → Lasting → Bool
+sameNamed a b = given (a .no .0) && given (b .no .0) && sameBytes (a .owner .0) (b .owner .0) && sameBytes (textBytes (a .name)) (textBytes (b .name))
+
+module _ (vs ws : List Volume) (e : map lasting ws ≡ map lasting vs) where
+  pub lasting-same : (n : VolumeNo) → lastingOf ws n ≡ lastingOf vs n
+  lasting-same n =
+      sym (find-mapped lasting (isVolume n) (isLasting n) 0 ws (λ x. refl))
+      ∙ ap (firstRow (isLasting n) 0) e
+      ∙ find-mapped lasting (isVolume n) (isLasting n) 0 vs (λ x. refl)
+
+  pub numbers-same : noClash sameVolume ws ≡ noClash sameVolume vs
+  numbers-same =
+      clash-map sameVolume sameLasting lasting ws (λ x y. refl)
+      ∙ ap (noClash sameLasting) e
+      ∙ sym (clash-map sameVolume sameLasting lasting vs (λ x y. refl))
+
+  pub names-same : noClash sameName ws ≡ noClash sameName vs
+  unfolding sameName
+  names-same =
+      clash-map sameName sameNamed lasting ws (λ x y. refl)
+      ∙ ap (noClash sameNamed) e
+      ∙ sym (clash-map sameName sameNamed lasting vs (λ x y. refl))
+
+-- a volume that is there in one table is there in the other
+there-too : (n : VolumeNo) (vs ws : List Volume) → lastingOf ws n ≡ lastingOf vs n → anyOf (isVolume n) ws ≡ true → anyOf (isVolume n) vs ≡ true
+there-too n vs ws e a = go (some-found (isVolume n) ws 0 a)
+  where
+    go : FoundRow (find (isVolume n) ws) → anyOf (isVolume n) vs ≡ true
+    go (found-row i x q) =
+        ⊎-elim (λ t. t)
+        (λ f. absurd (miss-hit (ap (mapHit lasting) (none-miss (isVolume n) vs 0 f)) (sym e ∙ ap (mapHit lasting) q)))
+        (pass-or-fail (anyOf (isVolume n) vs))
+
+pub there-same : (n : VolumeNo) (vs ws : List Volume) → lastingOf ws n ≡ lastingOf vs n → anyOf (isVolume n) ws ≡ anyOf (isVolume n) vs
+there-same n vs ws e = same-test (anyOf (isVolume n) ws) (anyOf (isVolume n) vs) (there-too n vs ws e) (there-too n ws vs (sym e))
+
+-- the bytes of a shard
+abbrev bytesIn : ℕ → Hit Lasting → ℕ
+bytesIn size miss = 0
+bytesIn size (hit i x) = shardSize size (x .k)
+
+shard-hit : (vs : List Volume) (e : Entry) (h : Hit Volume) → find (isVolume (e .volume)) vs ≡ h → shardBytes vs e ≡ bytesIn (e .size) (mapHit lasting h)
+unfolding shardBytes
+shard-hit vs e miss q = rw q
+shard-hit vs e (hit i v) q = rw q
+
+pub bytes-same : (n : RelayNo) (vs ws : List Volume) (e : Entry) → lastingOf ws (e .volume) ≡ lastingOf vs (e .volume) → bytesOn ws n e ≡ bytesOn vs n e
+unfolding bytesOn
+bytes-same n vs ws e q =
+    let s : shardBytes ws e ≡ shardBytes vs e = shard-hit ws e (find (isVolume (e .volume)) ws) refl ∙ ap (bytesIn (e .size)) q ∙ sym (shard-hit vs e (find (isVolume (e .volume)) vs) refl) in
+    rw s
+
+-- the placement of an entry
+placed-hit : (t : Tables) (ws : List Volume) (p : Placement) (g h : Hit Volume) → mapHit lasting g ≡ mapHit lasting h → soundIn (withVolumes t ws) p g ≡ soundIn t p h
+unfolding soundIn soundPlacement
+placed-hit t ws p miss miss e = refl
+placed-hit t ws p miss (hit i v) e = absurd (miss-hit refl e)
+placed-hit t ws p (hit i v) miss e = absurd (miss-hit e refl)
+placed-hit t ws p (hit i v) (hit j w) e =
+    let q : lasting v ≡ lasting w = cc in
+    rw (ap (λ (x : Lasting). x .k) q, ap (λ (x : Lasting). x .m) q)
+
+-- a row that reads of the volumes what has not changed is as sound as it was
+module _ (t : Tables) (ws : List Volume) where
+  pub entry-same : (e : Entry) → lastingOf ws (e .volume) ≡ lastingOf (t .volumes) (e .volume) → soundEntry (withVolumes t ws) e ≡ soundEntry t e
+  unfolding soundEntry
+  entry-same e q = rw (placed-hit t ws (e .placement) (find (isVolume (e .volume)) ws) (find (isVolume (e .volume)) (t .volumes)) q)
+
+  pub token-same : (k : Token) → lastingOf ws (k .volume) ≡ lastingOf (t .volumes) (k .volume) → soundToken (withVolumes t ws) k ≡ soundToken t k
+  unfolding soundToken volumeThere parentThere
+  token-same k q = rw (there-same (k .volume) (t .volumes) ws q)
+
+  pub relay-same : (r : Relay) → ((j : ℕ) → j < length (t .entries) → lastingOf ws (getD (t .entries) j freshEntry .volume) ≡ lastingOf (t .volumes) (getD (t .entries) j freshEntry .volume))
+      → soundRelay (withVolumes t ws) r ≡ soundRelay t r
+  unfolding soundRelay
+  relay-same r q =
+      rw (sum-same (bytesOn ws (r .no)) (bytesOn (t .volumes) (r .no)) (t .entries) (t .entries)
+      (map-agree (bytesOn ws (r .no)) (bytesOn (t .volumes) (r .no)) (t .entries) freshEntry (λ j h. bytes-same (r .no) (t .volumes) ws (getD (t .entries) j freshEntry) (q j h))))
+
+-- the volumes change, and each entry and each token reads of them what it read
+pub record ReadSame (t : Tables) (ws : List Volume) : Type 0 where
+  pub numbers : noClash sameVolume ws ≡ true
+  pub names : noClash sameName ws ≡ true
+  pub entries : (j : ℕ) → j < length (t .entries) → lastingOf ws (getD (t .entries) j freshEntry .volume) ≡ lastingOf (t .volumes) (getD (t .entries) j freshEntry .volume)
+  pub tokens : (j : ℕ) → j < length (t .tokens) → lastingOf ws (getD (t .tokens) j freshToken .volume) ≡ lastingOf (t .volumes) (getD (t .tokens) j freshToken .volume)
+
+pub volumes-change : (t : Tables) (ws : List Volume) → ReadSame t ws → Rest t → Rest (withVolumes t ws)
+volumes-change t ws s p =
+    let u = withVolumes t ws in
+    record {
+      counts = p .counts;
+      volume-numbers = s .numbers;
+      volume-names = s .names;
+      entries = all-same (soundEntry u) (soundEntry t) (t .entries) (t .entries) (map-agree (soundEntry u) (soundEntry t) (t .entries) freshEntry (λ j h. entry-same t ws (getD (t .entries) j freshEntry) (s .entries j h))) ∙ p .entries;
+      entry-paths = p .entry-paths;
+      tokens = all-same (soundToken u) (soundToken t) (t .tokens) (t .tokens) (map-agree (soundToken u) (soundToken t) (t .tokens) freshToken (λ j h. token-same t ws (getD (t .tokens) j freshToken) (s .tokens j h))) ∙ p .tokens;
+      token-numbers = p .token-numbers;
+      relays = all-same (soundRelay u) (soundRelay t) (t .relays) (t .relays) (map-agree (soundRelay u) (soundRelay t) (t .relays) freshRelay (λ j h. relay-same t ws (getD (t .relays) j freshRelay) (s .entries))) ∙ p .relays;
+      relay-numbers = p .relay-numbers;
+    }
+
+-- they change in what does not last
+pub lasting-change : (t : Tables) (ws : List Volume) → map lasting ws ≡ map lasting (t .volumes) → Rest t → Rest (withVolumes t ws)
+lasting-change t ws e p =
+    volumes-change t ws
+    (record {
+      numbers = numbers-same (t .volumes) ws e ∙ p .volume-numbers;
+      names = names-same (t .volumes) ws e ∙ p .volume-names;
+      entries = λ j h. lasting-same (t .volumes) ws e (getD (t .entries) j freshEntry .volume);
+      tokens = λ j h. lasting-same (t .volumes) ws e (getD (t .tokens) j freshToken .volume);
+    })
+    p

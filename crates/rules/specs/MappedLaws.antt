@@ -1,0 +1,55 @@
+-- Laws of a table with every row changed by one function: what tests, searches and sums say after it. Assumes nothing.
+use mathlib.Core.Path.{_≡_, refl, sym}
+use mathlib.Core.Bool.{Bool, true, false, cond, not}
+use mathlib.Core.List.{List, [], _∷_, map}
+use Prim.Native.Nat.{ℕ, suc, _<_}
+use native.Mathlib.Omega.{arith}
+use borrow.Author.Tests.{not-true}
+use lib.ListN.{length, getD}
+use Rattle.lists.specs.Lists.{Hit, miss, hit, firstRow, allOf, anyOf, sumOf, noClash}
+use Rattle.lists.specs.BoolLaws.{and-left, and-right, and-both, or-left, or-right, or-none}
+use Rattle.lists.specs.RowLaws.{sum-same, map-after}
+
+-- what is found, with the row changed
+abbrev pub mapHit : {A B : Type 0} → (A → B) → Hit A → Hit B
+mapHit f miss = miss
+mapHit f (hit i x) = hit i (f x)
+
+module _ {A B : Type 0} (f : A → B) where
+  -- every row passes
+  pub all-mapped : (p : A → Bool) (q : B → Bool) (l : List A) (d : A)
+      → ((j : ℕ) → j < length l → p (getD l j d) ≡ true → q (f (getD l j d)) ≡ true) → allOf p l ≡ true → allOf q (map f l) ≡ true
+  unfolding allOf
+  all-mapped p q [] d h e = refl
+  all-mapped p q (x ∷ xs) d h e =
+      and-both (h 0 (omega arith) (and-left (p x) (allOf p xs) e))
+      (all-mapped p q xs d (λ j k. h (suc j) (omega arith)) (and-right (p x) (allOf p xs) e))
+
+  -- no row passes
+  pub none-mapped : (p : A → Bool) (q : B → Bool) (l : List A) → ((x : A) → p x ≡ false → q (f x) ≡ false) → anyOf p l ≡ false → anyOf q (map f l) ≡ false
+  unfolding anyOf
+  none-mapped p q [] h e = refl
+  none-mapped p q (x ∷ xs) h e = or-none (h x (or-left (p x) (anyOf p xs) e)) (none-mapped p q xs h (or-right (p x) (anyOf p xs) e))
+
+  -- no row clashes with a later one
+  pub clash-mapped : (c : A → A → Bool) (c' : B → B → Bool) (l : List A) → ((x y : A) → c x y ≡ false → c' (f x) (f y) ≡ false)
+      → noClash c l ≡ true → noClash c' (map f l) ≡ true
+  unfolding noClash
+  clash-mapped c c' [] h e = refl
+  clash-mapped c c' (x ∷ xs) h e =
+      let n = not-true (anyOf (c x) xs) (and-left (not (anyOf (c x) xs)) (noClash c xs) e) in
+      rw (none-mapped (c x) (c' (f x)) xs (h x) n) (clash-mapped c c' xs h (and-right (not (anyOf (c x) xs)) (noClash c xs) e))
+
+  -- a search whose test reads what the change keeps finds the changed row
+  hit-cond : (b : Bool) (k : ℕ) (x : A) (h : Hit A) → cond b (hit k (f x)) (mapHit f h) ≡ mapHit f (cond b (hit k x) h)
+  hit-cond true k x h = refl
+  hit-cond false k x h = refl
+
+  pub find-mapped : (p : A → Bool) (q : B → Bool) (k : ℕ) (l : List A) → ((x : A) → q (f x) ≡ p x) → firstRow q k (map f l) ≡ mapHit f (firstRow p k l)
+  unfolding firstRow
+  find-mapped p q k [] e = refl
+  find-mapped p q k (x ∷ xs) e = rw (e x, find-mapped p q (suc k) xs e) (hit-cond (p x) k x (firstRow p (suc k) xs))
+
+  -- a sum
+  pub sum-mapped : (g : B → ℕ) (h : A → ℕ) (l : List A) → ((x : A) → g (f x) ≡ h x) → sumOf g (map f l) ≡ sumOf h l
+  sum-mapped g h l e = sum-same g h (map f l) l (map-after g f h l e)
