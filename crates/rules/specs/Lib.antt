@@ -17,6 +17,7 @@ pub mod Calls
 pub mod SoundParts
 pub mod BranchLaws
 pub mod TakeLaws
+pub mod NumberLaws
 pub mod PlaceLaws
 pub mod Shape
 pub mod MappedLaws
