@@ -19,6 +19,7 @@ pub mod BranchLaws
 pub mod TakeLaws
 pub mod NumberLaws
 pub mod PlaceLaws
+pub mod LoadLaws
 pub mod Shape
 pub mod MappedLaws
 pub mod ClearedLaws
