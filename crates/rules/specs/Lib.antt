@@ -20,6 +20,8 @@ pub mod TakeLaws
 pub mod NumberLaws
 pub mod PlaceLaws
 pub mod LoadLaws
+pub mod OneRowLaws
+pub mod StoreLaws
 pub mod Shape
 pub mod MappedLaws
 pub mod ClearedLaws
