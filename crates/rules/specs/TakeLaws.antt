@@ -1,6 +1,6 @@
--- Tests of the first rows of a table, and of a table that was mapped. Assumes nothing.
+-- Tests of the first rows of a table, of a table that was mapped, and of one thing beside each row. Assumes nothing.
 use mathlib.Core.Path.{_≡_, refl, ap, sym, _∙_}
-use mathlib.Core.Bool.{Bool, true, false, _&&_}
+use mathlib.Core.Bool.{Bool, true, false, _&&_, _||_}
 use mathlib.Core.List.{List, [], _∷_, _++_, map}
 use Prim.Native.Nat.{ℕ, zero, suc, _+_, _<_, _≤_, min}
 use native.Mathlib.Omega.{arith}
@@ -32,3 +32,11 @@ module _ {A B : Type 0} (f : A → B) (p : B → Bool) (q : A → Bool) (l : Lis
 
   pub any-map : anyOf p (map f l) ≡ anyOf q l
   any-map = any-same p q (map f l) l (map-after p f q l e)
+
+-- a test that all rows share
+pub any-and : {A : Type 0} (b : Bool) (p : A → Bool) (l : List A) → anyOf (λ x. b && p x) l ≡ (b && anyOf p l)
+unfolding anyOf
+any-and true p [] = refl
+any-and false p [] = refl
+any-and true p (x ∷ xs) = ap (λ (c : Bool). p x || c) (any-and true p xs)
+any-and false p (x ∷ xs) = any-and false p xs
