@@ -17,7 +17,7 @@ pub mod Calls
 pub mod SoundParts
 pub mod BranchLaws
 pub mod TakeLaws
-pub mod NumberLaws
+pub mod ApartLaws
 pub mod PlaceLaws
 pub mod LoadLaws
 pub mod OneRowLaws

@@ -28,7 +28,7 @@ use Rattle.rules.specs.Commit.{Placed, noPlace, placed, andPlaced, place
 use Rattle.rules.specs.Sound.{isGiven, soundPlacement, sameRelayRow}
 use Rattle.rules.specs.BranchLaws.{cond-case}
 use Rattle.rules.specs.MappedLaws.{all-mapped}
-use Rattle.rules.specs.NumberLaws.{used-not-free, not-free-used, other-part, either-part}
+use Rattle.rules.specs.ApartLaws.{used-not-free, not-free-used, other-part, either-part}
 use Rattle.rules.specs.PlaceLaws.{fitsRelay, taken-eligible, placed-on, place-sound}
 
 -- a relay keeps its number

@@ -27,7 +27,7 @@ use Rattle.rules.specs.Sound.{isGiven, relayGiven, soundPlacement, sameR
 use Rattle.rules.specs.BranchLaws.{cond-case}
 use Rattle.rules.specs.TakeLaws.{all-take, clash-take, any-map}
 use Rattle.rules.specs.MappedLaws.{all-mapped, clash-mapped}
-use Rattle.rules.specs.NumberLaws.{used-not-free, other-part, numbered-symmetric, one-row}
+use Rattle.rules.specs.ApartLaws.{used-not-free, other-part, numbered-symmetric, one-row}
 
 -- a row put into its place: the rows are those that were there and the new one
 or-swap : (a b c : Bool) → (a || (b || c)) ≡ (b || (a || c))

@@ -29,7 +29,7 @@ use Rattle.rules.specs.Commit.{isReplaced, isNewPath, storeNew, storeAt,
 use Rattle.rules.specs.Sound.{sameEntry, samePath}
 use Rattle.rules.specs.BranchLaws.{cond-case}
 use Rattle.rules.specs.TakeLaws.{all-map, any-map, any-and}
-use Rattle.rules.specs.NumberLaws.{either-part, free-used, free-not-used, not-free-used, numbered-given, numbered-same, numbered-symmetric, clash-one}
+use Rattle.rules.specs.ApartLaws.{either-part, free-used, free-not-used, not-free-used, numbered-given, numbered-same, numbered-symmetric, clash-one}
 use Rattle.rules.specs.OneRowLaws.{sum-but-one, not-all-count, all-set, sum-set, count-set, clash-set}
 use Rattle.rules.specs.LoadLaws.{Staged, putIn, placeIn, entryIn}
 
