@@ -1,16 +1,16 @@
 -- Laws of cleared: the rows that pass a test are as fresh ones, and the others stay. Assumes nothing.
-use mathlib.Core.Path.{_≡_, refl, ap₂, sym, _∙_}
-use mathlib.Core.Bool.{Bool, true, false, cond}
-use mathlib.Core.Logic.{⊎-elim}
+use mathlib.Core.Path.{_≡_, refl, ap, ap₂, _∙_}
+use mathlib.Core.Bool.{Bool, true, false, cond, false≢true}
 use mathlib.Core.List.{List, [], _∷_, map}
 use Prim.Native.Nat.{ℕ, zero, suc, _+_, _<_}
 use native.Mathlib.Nat.{le-of-suc-le-suc, not-suc-le-zero}
 use native.Mathlib.Omega.{arith}
 use lib.ListN.{length, getD, length-map}
-use Rattle.lists.specs.Lists.{bit, Hit, hit, firstRow, allOf, anyOf, countIf, keep, sumOf, noClash}
-use Rattle.lists.specs.BoolLaws.{and-both, or-none, pass-or-fail, not-both}
+use Rattle.lists.specs.Lists.{bit, Hit, miss, hit, firstRow, allOf, anyOf, countIf, keep, sumOf, noClash}
+use Rattle.lists.specs.BoolLaws.{and-both, or-left, or-right, or-none, not-both}
+use Rattle.lists.specs.TestLaws.{miss-at}
 use Rattle.rules.specs.Tables.{cleared}
-use Rattle.rules.specs.MappedLaws.{all-mapped, clash-mapped}
+use Rattle.rules.specs.MappedLaws.{clash-mapped}
 
 -- a row, or a fresh one where the row passes the test
 abbrev pub orFresh : {A : Type 0} → (A → Bool) → A → A → A
@@ -48,12 +48,12 @@ module _ {A : Type 0} (p : A → Bool) (z : A) where
   all-orFresh q true x e h = e
   all-orFresh q false x e h = h refl
 
-  pub all-cleared : (q r : A → Bool) (l : List A) (d : A) → r z ≡ true
-      → ((j : ℕ) → j < length l → p (getD l j d) ≡ false → q (getD l j d) ≡ true → r (getD l j d) ≡ true) → allOf q l ≡ true
-      → allOf r (cleared p z l) ≡ true
-  all-cleared q r l d e h a =
-      rw (cleared-map l)
-      (all-mapped (orFresh p z) q r l d (λ j k s. all-orFresh r (p (getD l j d)) (getD l j d) e (λ f. h j k f s)) a)
+  pub all-cleared : (q : A → Bool) (l : List A) (d : A) → q z ≡ true → ((j : ℕ) → j < length l → p (getD l j d) ≡ false → q (getD l j d) ≡ true)
+      → allOf q (cleared p z l) ≡ true
+  unfolding allOf cleared
+  all-cleared q [] d e h = refl
+  all-cleared q (x ∷ xs) d e h =
+      and-both (all-orFresh q (p x) x e (h 0 (omega arith))) (all-cleared q xs d e (λ j k. h (suc j) (omega arith)))
 
   -- no row clashes where a fresh one clashes with none
   clash-orFresh : (c : A → A → Bool) (a b : Bool) (x y : A) → ((y : A) → c z y ≡ false) → ((x : A) → c x z ≡ false) → c x y ≡ false
@@ -80,6 +80,38 @@ module _ {A : Type 0} (p : A → Bool) (z : A) where
   find-cleared q k (x ∷ xs) d f n =
       rw (find-cleared q (suc k) xs d f (λ j h. n (suc j) (omega arith)))
       (find-orFresh q (p x) k x (firstRow q (suc k) xs) f (n 0 (omega arith)))
+
+  -- a row that it found and that stays is found, and nothing where nothing was
+  found-orFresh : (q : A → Bool) (a b : Bool) (k i : ℕ) (y x : A) (g h : Hit A) → q z ≡ false → q y ≡ a → p y ≡ b → p x ≡ false
+      → (h ≡ hit i x → g ≡ hit i x) → cond a (hit k y) h ≡ hit i x → cond (q (cond b z y)) (hit k (cond b z y)) g ≡ hit i x
+  found-orFresh q true true k i y x g h f c e n r s = let w : y ≡ x = cc in absurd (not-both e (ap p w ∙ n))
+  found-orFresh q true false k i y x g h f c e n r s = rw c s
+  found-orFresh q false true k i y x g h f c e n r s = rw f (r s)
+  found-orFresh q false false k i y x g h f c e n r s = rw c (r s)
+
+  pub found-cleared : (q : A → Bool) (k i : ℕ) (l : List A) (x : A) → q z ≡ false → firstRow q k l ≡ hit i x → p x ≡ false
+      → firstRow q k (cleared p z l) ≡ hit i x
+  unfolding firstRow cleared
+  found-cleared q k i [] x f e n = e
+  found-cleared q k i (y ∷ ys) x f e n =
+      found-orFresh q (q y) (p y) k i y x (firstRow q (suc k) (cleared p z ys)) (firstRow q (suc k) ys) f refl refl n
+      (λ r. found-cleared q (suc k) i ys x f r n) e
+
+  pub miss-cleared : (q : A → Bool) (k : ℕ) (l : List A) → q z ≡ false → firstRow q k l ≡ miss → firstRow q k (cleared p z l) ≡ miss
+  miss-cleared q k l f e =
+      find-cleared q k l z f (λ j h t. miss-at q l k e j h z) ∙ e
+
+  -- what went is among the rows that were kept of it
+  keep-cond : (q : A → Bool) (b : Bool) (x : A) (l : List A) → anyOf q (cond b (x ∷ l) l) ≡ false → (b ≡ true → q x ≡ false) × (anyOf q l ≡ false)
+  unfolding anyOf
+  keep-cond q true x l e = (λ t. or-left (q x) (anyOf q l) e, or-right (q x) (anyOf q l) e)
+  keep-cond q false x l e = (λ t. absurd (false≢true t), e)
+
+  pub none-kept : (q : A → Bool) (l : List A) (j : ℕ) (d : A) → anyOf q (keep p l) ≡ false → j < length l → p (getD l j d) ≡ true → q (getD l j d) ≡ false
+  unfolding keep
+  none-kept q [] j d e h t = absurd (not-suc-le-zero h)
+  none-kept q (x ∷ xs) zero d e h t = keep-cond q (p x) x (keep p xs) e .0 t
+  none-kept q (x ∷ xs) (suc j) d e h t = none-kept q xs j d (keep-cond q (p x) x (keep p xs) e .1) (le-of-suc-le-suc h) t
 
   -- a sum: what stays and what went are the whole
   sum-orFresh : (f : A → ℕ) (b : Bool) (x : A) (l : List A) → f z ≡ 0 → f (cond b z x) + sumOf f (cond b (x ∷ l) l) ≡ f x + sumOf f l

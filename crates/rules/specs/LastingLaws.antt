@@ -1,15 +1,16 @@
--- What the other rows read of a volume: its number, owner, name, K and M, which last as long as the volume does. Volumes that change in
--- anything else leave the rest of the tables sound, and so do volumes that go where no entry and no token is theirs. Assumes nothing.
+-- A volume's number, owner, name, K, M and cap last as long as the volume does, and the other rows read nothing else of it. So volumes
+-- that change in anything else leave the rest of the tables sound. Assumes nothing.
 use mathlib.Core.Path.{_≡_, refl, ap, sym, _∙_}
 use mathlib.Core.Bool.{Bool, true, false, _&&_}
 use mathlib.Core.Logic.{⊎-elim}
 use mathlib.Core.List.{List, map}
 use Prim.Native.Nat.{ℕ, _<_}
 use lib.ListN.{length, getD}
-use Rattle.lists.specs.Lists.{Hit, miss, hit, firstRow, find, allOf, anyOf, sumOf, noClash}
+use Rattle.amount.specs.declared.Cap.{Cap}
+use Rattle.lists.specs.Lists.{Hit, miss, hit, firstRow, find, allOf, sumOf, noClash}
 use Rattle.lists.specs.Bytes.{sameBytes}
-use Rattle.lists.specs.BoolLaws.{same-test, pass-or-fail}
-use Rattle.lists.specs.SearchLaws.{FoundRow, found-row, some-found, none-miss, miss-hit}
+use Rattle.lists.specs.BoolLaws.{pass-or-fail}
+use Rattle.lists.specs.SearchLaws.{miss-hit}
 use Rattle.lists.specs.RowLaws.{map-agree, sum-same, all-same, clash-map}
 use Rattle.text.specs.declared.Text.{Text}
 use Rattle.text.specs.Text.{textBytes}
@@ -23,11 +24,12 @@ use Rattle.rules.specs.declared.Token.{Token}
 use Rattle.rules.specs.declared.Relay.{Relay}
 use Rattle.rules.specs.declared.Tables.{Tables}
 use Rattle.rules.specs.Fresh.{freshEntry, freshToken, freshRelay}
-use Rattle.rules.specs.Tables.{given, numbered, isVolume, withVolumes}
+use Rattle.rules.specs.Tables.{given, numbered, usedToken, isVolume, withVolumes}
 use Rattle.rules.specs.Relays.{shardSize, shardBytes, bytesOn}
 use Rattle.rules.specs.Sound.{soundVolume, soundEntry, soundToken, soundRelay, soundIn, soundPlacement, volumeThere, parentThere, sameVolume, sameName}
+use Rattle.rules.specs.RowFacts.{free-token}
 use Rattle.rules.specs.RestParts.{Rest}
-use Rattle.rules.specs.MappedLaws.{mapHit, find-mapped}
+use Rattle.rules.specs.MappedLaws.{mapHit, found-any, find-mapped}
 
 pub record Lasting : Type 0 where
   pub no : VolumeNo
@@ -35,9 +37,10 @@ pub record Lasting : Type 0 where
   pub name : Text
   pub k : ℕ
   pub m : ℕ
+  pub cap : Cap
 
 abbrev pub lasting : Volume → Lasting
-lasting v = record { no = v .no; owner = v .owner; name = v .name; k = v .k; m = v .m }
+lasting v = record { no = v .no; owner = v .owner; name = v .name; k = v .k; m = v .m; cap = v .cap }
 
 -- what the entries and tokens of a volume of this number read of the table
 abbrev pub lastingOf : List Volume → VolumeNo → Hit Lasting
@@ -73,19 +76,6 @@ module _ (vs ws : List Volume) (e : map lasting ws ≡ map lasting vs) where
       ∙ ap (noClash sameNamed) e
       ∙ sym (clash-map sameName sameNamed lasting vs (λ x y. refl))
 
--- a volume that is there in one table is there in the other
-there-too : (n : VolumeNo) (vs ws : List Volume) → lastingOf ws n ≡ lastingOf vs n → anyOf (isVolume n) ws ≡ true → anyOf (isVolume n) vs ≡ true
-there-too n vs ws e a = go (some-found (isVolume n) ws 0 a)
-  where
-    go : FoundRow (find (isVolume n) ws) → anyOf (isVolume n) vs ≡ true
-    go (found-row i x q) =
-        ⊎-elim (λ t. t)
-        (λ f. absurd (miss-hit (ap (mapHit lasting) (none-miss (isVolume n) vs 0 f)) (sym e ∙ ap (mapHit lasting) q)))
-        (pass-or-fail (anyOf (isVolume n) vs))
-
-pub there-same : (n : VolumeNo) (vs ws : List Volume) → lastingOf ws n ≡ lastingOf vs n → anyOf (isVolume n) ws ≡ anyOf (isVolume n) vs
-there-same n vs ws e = same-test (anyOf (isVolume n) ws) (anyOf (isVolume n) vs) (there-too n vs ws e) (there-too n ws vs (sym e))
-
 -- the bytes of a shard
 abbrev bytesIn : ℕ → Hit Lasting → ℕ
 bytesIn size miss = 0
@@ -102,27 +92,33 @@ bytes-same n vs ws e q =
     let s : shardBytes ws e ≡ shardBytes vs e = shard-hit ws e (find (isVolume (e .volume)) ws) refl ∙ ap (bytesIn (e .size)) q ∙ sym (shard-hit vs e (find (isVolume (e .volume)) vs) refl) in
     rw s
 
--- the placement of an entry
-placed-hit : (t : Tables) (ws : List Volume) (p : Placement) (g h : Hit Volume) → mapHit lasting g ≡ mapHit lasting h → soundIn (withVolumes t ws) p g ≡ soundIn t p h
-unfolding soundIn soundPlacement
-placed-hit t ws p miss miss e = refl
-placed-hit t ws p miss (hit i v) e = absurd (miss-hit refl e)
-placed-hit t ws p (hit i v) miss e = absurd (miss-hit e refl)
-placed-hit t ws p (hit i v) (hit j w) e =
-    let q : lasting v ≡ lasting w = cc in
-    rw (ap (λ (x : Lasting). x .k) q, ap (λ (x : Lasting). x .m) q)
+-- an entry is as sound in tables that have given as many relay numbers, and in which its volume has what it had of what lasts
+module _ (t u : Tables) (l : u .«last_relay» ≡ t .«last_relay») where
+  placed-hit : (p : Placement) (g h : Hit Volume) → mapHit lasting g ≡ mapHit lasting h → soundIn u p g ≡ soundIn t p h
+  unfolding soundIn soundPlacement
+  placed-hit p miss miss e = refl
+  placed-hit p miss (hit i v) e = absurd (miss-hit refl e)
+  placed-hit p (hit i v) miss e = absurd (miss-hit e refl)
+  placed-hit p (hit i v) (hit j w) e =
+      let q : lasting v ≡ lasting w = cc in
+      rw (ap (λ (x : Lasting). x .k) q, ap (λ (x : Lasting). x .m) q, l)
+
+  pub entry-same : (e : Entry) → lastingOf (u .volumes) (e .volume) ≡ lastingOf (t .volumes) (e .volume) → soundEntry u e ≡ soundEntry t e
+  unfolding soundEntry
+  entry-same e q = rw (placed-hit (e .placement) (find (isVolume (e .volume)) (u .volumes)) (find (isVolume (e .volume)) (t .volumes)) q)
 
 -- a row that reads of the volumes what has not changed is as sound as it was
 module _ (t : Tables) (ws : List Volume) where
-  pub entry-same : (e : Entry) → lastingOf ws (e .volume) ≡ lastingOf (t .volumes) (e .volume) → soundEntry (withVolumes t ws) e ≡ soundEntry t e
-  unfolding soundEntry
-  entry-same e q = rw (placed-hit t ws (e .placement) (find (isVolume (e .volume)) ws) (find (isVolume (e .volume)) (t .volumes)) q)
-
-  pub token-same : (k : Token) → lastingOf ws (k .volume) ≡ lastingOf (t .volumes) (k .volume) → soundToken (withVolumes t ws) k ≡ soundToken t k
+  token-same : (k : Token) → lastingOf ws (k .volume) ≡ lastingOf (t .volumes) (k .volume) → soundToken (withVolumes t ws) k ≡ soundToken t k
   unfolding soundToken volumeThere parentThere
-  token-same k q = rw (there-same (k .volume) (t .volumes) ws q)
+  token-same k q = rw (found-any lasting (isVolume (k .volume)) ws (t .volumes) q)
 
-  pub relay-same : (r : Relay) → ((j : ℕ) → j < length (t .entries) → lastingOf ws (getD (t .entries) j freshEntry .volume) ≡ lastingOf (t .volumes) (getD (t .entries) j freshEntry .volume))
+  token-agrees : (k : Token) → (usedToken k ≡ true → lastingOf ws (k .volume) ≡ lastingOf (t .volumes) (k .volume))
+      → soundToken (withVolumes t ws) k ≡ soundToken t k
+  token-agrees k q =
+      ⊎-elim (λ w. token-same k (q w)) (λ w. free-token (withVolumes t ws) k w ∙ sym (free-token t k w)) (pass-or-fail (usedToken k))
+
+  relay-same : (r : Relay) → ((j : ℕ) → j < length (t .entries) → lastingOf ws (getD (t .entries) j freshEntry .volume) ≡ lastingOf (t .volumes) (getD (t .entries) j freshEntry .volume))
       → soundRelay (withVolumes t ws) r ≡ soundRelay t r
   unfolding soundRelay
   relay-same r q =
@@ -134,7 +130,8 @@ pub record ReadSame (t : Tables) (ws : List Volume) : Type 0 where
   pub numbers : noClash sameVolume ws ≡ true
   pub names : noClash sameName ws ≡ true
   pub entries : (j : ℕ) → j < length (t .entries) → lastingOf ws (getD (t .entries) j freshEntry .volume) ≡ lastingOf (t .volumes) (getD (t .entries) j freshEntry .volume)
-  pub tokens : (j : ℕ) → j < length (t .tokens) → lastingOf ws (getD (t .tokens) j freshToken .volume) ≡ lastingOf (t .volumes) (getD (t .tokens) j freshToken .volume)
+  pub tokens : (j : ℕ) → j < length (t .tokens) → usedToken (getD (t .tokens) j freshToken) ≡ true
+      → lastingOf ws (getD (t .tokens) j freshToken .volume) ≡ lastingOf (t .volumes) (getD (t .tokens) j freshToken .volume)
 
 pub volumes-change : (t : Tables) (ws : List Volume) → ReadSame t ws → Rest t → Rest (withVolumes t ws)
 volumes-change t ws s p =
@@ -143,9 +140,9 @@ volumes-change t ws s p =
       counts = p .counts;
       volume-numbers = s .numbers;
       volume-names = s .names;
-      entries = all-same (soundEntry u) (soundEntry t) (t .entries) (t .entries) (map-agree (soundEntry u) (soundEntry t) (t .entries) freshEntry (λ j h. entry-same t ws (getD (t .entries) j freshEntry) (s .entries j h))) ∙ p .entries;
+      entries = all-same (soundEntry u) (soundEntry t) (t .entries) (t .entries) (map-agree (soundEntry u) (soundEntry t) (t .entries) freshEntry (λ j h. entry-same t u refl (getD (t .entries) j freshEntry) (s .entries j h))) ∙ p .entries;
       entry-paths = p .entry-paths;
-      tokens = all-same (soundToken u) (soundToken t) (t .tokens) (t .tokens) (map-agree (soundToken u) (soundToken t) (t .tokens) freshToken (λ j h. token-same t ws (getD (t .tokens) j freshToken) (s .tokens j h))) ∙ p .tokens;
+      tokens = all-same (soundToken u) (soundToken t) (t .tokens) (t .tokens) (map-agree (soundToken u) (soundToken t) (t .tokens) freshToken (λ j h. token-agrees t ws (getD (t .tokens) j freshToken) (s .tokens j h))) ∙ p .tokens;
       token-numbers = p .token-numbers;
       relays = all-same (soundRelay u) (soundRelay t) (t .relays) (t .relays) (map-agree (soundRelay u) (soundRelay t) (t .relays) freshRelay (λ j h. relay-same t ws (getD (t .relays) j freshRelay) (s .entries))) ∙ p .relays;
       relay-numbers = p .relay-numbers;
@@ -159,6 +156,6 @@ lasting-change t ws e p =
       numbers = numbers-same (t .volumes) ws e ∙ p .volume-numbers;
       names = names-same (t .volumes) ws e ∙ p .volume-names;
       entries = λ j h. lasting-same (t .volumes) ws e (getD (t .entries) j freshEntry .volume);
-      tokens = λ j h. lasting-same (t .volumes) ws e (getD (t .tokens) j freshToken .volume);
+      tokens = λ j h w. lasting-same (t .volumes) ws e (getD (t .tokens) j freshToken .volume);
     })
     p

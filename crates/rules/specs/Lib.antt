@@ -25,5 +25,17 @@ pub mod StoreLaws
 pub mod Shape
 pub mod MappedLaws
 pub mod ClearedLaws
+pub mod RowFacts
 pub mod RestParts
 pub mod LastingLaws
+pub mod SetLaws
+pub mod RowsKept
+pub mod BranchLaws
+pub mod NumberLaws
+pub mod Family
+pub mod Invariant
+pub mod RelaySound
+pub mod RoomLaws
+pub mod TokensGo
+pub mod OutcomeCases
+pub mod RemoveSound

@@ -1,12 +1,12 @@
 -- Laws of a table with every row changed by one function: what tests, searches and sums say after it. Assumes nothing.
-use mathlib.Core.Path.{_≡_, refl, sym}
-use mathlib.Core.Bool.{Bool, true, false, cond, not}
+use mathlib.Core.Path.{_≡_, refl, ap, sym, _∙_}
+use mathlib.Core.Bool.{Bool, true, false, _||_, cond, not}
 use mathlib.Core.List.{List, [], _∷_, map}
 use Prim.Native.Nat.{ℕ, suc, _<_}
 use native.Mathlib.Omega.{arith}
 use borrow.Author.Tests.{not-true}
 use lib.ListN.{length, getD}
-use Rattle.lists.specs.Lists.{Hit, miss, hit, firstRow, allOf, anyOf, sumOf, noClash}
+use Rattle.lists.specs.Lists.{Hit, miss, hit, firstRow, find, allOf, anyOf, sumOf, noClash}
 use Rattle.lists.specs.BoolLaws.{and-left, and-right, and-both, or-left, or-right, or-none}
 use Rattle.lists.specs.RowLaws.{sum-same, map-after}
 
@@ -14,6 +14,29 @@ use Rattle.lists.specs.RowLaws.{sum-same, map-after}
 abbrev pub mapHit : {A B : Type 0} → (A → B) → Hit A → Hit B
 mapHit f miss = miss
 mapHit f (hit i x) = hit i (f x)
+
+-- some row passes where a search finds one
+abbrev isHit : {A : Type 0} → Hit A → Bool
+isHit miss = false
+isHit (hit i x) = true
+
+any-cond : {A : Type 0} (b : Bool) (k : ℕ) (x : A) (h : Hit A) → (b || isHit h) ≡ isHit (cond b (hit k x) h)
+any-cond true k x h = refl
+any-cond false k x h = refl
+
+any-hit : {A : Type 0} (p : A → Bool) (k : ℕ) (l : List A) → anyOf p l ≡ isHit (firstRow p k l)
+unfolding anyOf firstRow
+any-hit p k [] = refl
+any-hit p k (x ∷ xs) = rw (any-hit p (suc k) xs) (any-cond (p x) k x (firstRow p (suc k) xs))
+
+hit-mapped : {A B : Type 0} (f : A → B) (h : Hit A) → isHit (mapHit f h) ≡ isHit h
+hit-mapped f miss = refl
+hit-mapped f (hit i x) = refl
+
+-- two searches that find the same, as f shows it
+pub found-any : {A B : Type 0} (f : A → B) (p : A → Bool) (l m : List A) → mapHit f (find p l) ≡ mapHit f (find p m) → anyOf p l ≡ anyOf p m
+found-any f p l m e =
+    any-hit p 0 l ∙ sym (hit-mapped f (find p l)) ∙ ap isHit e ∙ hit-mapped f (find p m) ∙ sym (any-hit p 0 m)
 
 module _ {A B : Type 0} (f : A → B) where
   -- every row passes

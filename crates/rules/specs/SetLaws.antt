@@ -1,0 +1,33 @@
+-- Laws of a table with one row stored: what tests, searches and clashes say after it, for any kind of row. Assumes nothing.
+use mathlib.Core.Path.{_≡_, refl, ap, sym, _∙_}
+use mathlib.Core.Bool.{Bool, true, false, cond}
+use mathlib.Core.List.{List, [], _∷_, map}
+use Prim.Native.Nat.{ℕ, zero, suc, _<_}
+use native.Mathlib.Nat.{le-of-suc-le-suc, not-suc-le-zero}
+use native.Mathlib.Omega.{arith}
+use lib.ListN.{length, getD, set}
+use lib.Seq.{map-set-same}
+use Rattle.lists.specs.Lists.{Hit, miss, hit, firstRow, find, allOf, anyOf, noClash, modify}
+use Rattle.lists.specs.BoolLaws.{and-left, and-right, and-both}
+use Rattle.lists.specs.ModifyLaws.{row-set, all-modify, clash-modify}
+
+module _ {A : Type 0} where
+  -- every row still passes
+  pub all-set : (p : A → Bool) (l : List A) (i : ℕ) (y : A) → allOf p l ≡ true → p y ≡ true → allOf p (set l i y) ≡ true
+  all-set p l i y e f = rw (row-set (λ x. y) l i y) (all-modify p (λ x. y) i l y e (λ h. f))
+
+  -- no row clashes where the new one clashes with none
+  pub clash-set : (c : A → A → Bool) (l : List A) (i : ℕ) (y : A) → noClash c l ≡ true
+      → ((j : ℕ) → j < length l → c (getD l j y) y ≡ false)
+      → ((j : ℕ) → j < length l → c y (getD l j y) ≡ false)
+      → noClash c (set l i y) ≡ true
+  clash-set c l i y e f g =
+      rw (row-set (λ x. y) l i y)
+      (clash-modify c (λ x. y) i l y e (λ j h k. f j (omega arith)) (λ j h k. g j k))
+
+  -- a row that does not pass, put in the place of one that does not pass, is not found
+  pub find-set : (p : A → Bool) (l : List A) (k i : ℕ) (y d : A) → p (getD l i d) ≡ false → p y ≡ false → firstRow p k (set l i y) ≡ firstRow p k l
+  unfolding firstRow
+  find-set p [] k i y d e f = refl
+  find-set p (x ∷ xs) k zero y d e f = rw (e, f)
+  find-set p (x ∷ xs) k (suc i) y d e f = rw (find-set p xs (suc k) i y d e f)
