@@ -15,13 +15,6 @@ pub mod SessionCalls
 pub mod Commit
 pub mod Calls
 pub mod SoundParts
-pub mod BranchLaws
-pub mod TakeLaws
-pub mod ApartLaws
-pub mod PlaceLaws
-pub mod LoadLaws
-pub mod OneRowLaws
-pub mod StoreLaws
 pub mod Shape
 pub mod MappedLaws
 pub mod ClearedLaws
@@ -39,3 +32,9 @@ pub mod RoomLaws
 pub mod TokensGo
 pub mod OutcomeCases
 pub mod RemoveSound
+pub mod TakeLaws
+pub mod ApartLaws
+pub mod PlaceLaws
+pub mod LoadLaws
+pub mod OneRowLaws
+pub mod StoreLaws
