@@ -1,4 +1,4 @@
--- Laws of rows that have a number, of which no two used rows have the same. Assumes nothing.
+-- Laws of rows that are free or have a number that no other row has. Assumes nothing.
 use mathlib.Core.Path.{_≡_, refl, ap, sym, _∙_}
 use mathlib.Core.Bool.{Bool, true, false, _&&_, _||_, not}
 use mathlib.Core.Logic.{_⊎_, inl, inr, ⊎-elim}
@@ -12,6 +12,7 @@ use Rattle.lists.specs.Lists.{noClash}
 use Rattle.lists.specs.BoolLaws.{and-left, and-right, and-both, same-test, pass-or-fail, not-both}
 use Rattle.lists.specs.TestLaws.{clash-at}
 use Rattle.rules.specs.Tables.{given, numbered}
+use Rattle.rules.specs.NumberLaws.{numbered-eq, sameNumber}
 
 -- a number is given or it is 0
 pub free-used : (n : ℕ) → eqb n 0 ≡ not (given n)
@@ -47,14 +48,11 @@ either-part false b f = f refl
 pub numbered-given : (n m : ℕ) → numbered n m ≡ true → given n ≡ true
 numbered-given n m e = and-left (given n) (eqb m n) e
 
-pub numbered-same : (n m : ℕ) → numbered n m ≡ true → m ≡ n
-numbered-same n m e = eqb-true m n (and-right (given n) (eqb m n) e)
-
 pub numbered-symmetric : (n m : ℕ) → numbered n m ≡ numbered m n
 numbered-symmetric n m = same-test (numbered n m) (numbered m n) (back n m) (back m n)
   where
     back : (n m : ℕ) → numbered n m ≡ true → numbered m n ≡ true
-    back n m e = rw (numbered-same n m e) (and-both (numbered-given n m e) (eq-eqb n n refl))
+    back n m e = rw (numbered-eq n m e) (and-both (numbered-given n m e) (eq-eqb n n refl))
 
 -- two indexes are the same or one is before the other
 data Places (i j : ℕ) : Type 0 where
@@ -79,8 +77,8 @@ clash-one clash l d e i j hi hj f g = go (places i j)
     go (after h) = absurd (not-both g (clash-at clash l e j i h hi d))
 
 -- rows of one number are one row
-module _ {A : Type 0} (number : A → ℕ) (l : List A) (d : A) (e : noClash (λ a b. numbered (number a) (number b)) l ≡ true) where
+module _ {A : Type 0} (number : A → ℕ) (l : List A) (d : A) (e : noClash (sameNumber number) l ≡ true) where
   pub one-row : (i j : ℕ) → i < length l → j < length l → numbered (number (getD l i d)) (number (getD l j d)) ≡ true → i ≡ j
   one-row i j hi hj f =
-      clash-one (λ a b. numbered (number a) (number b)) l d e i j hi hj f
+      clash-one (sameNumber number) l d e i j hi hj f
       (sym (numbered-symmetric (number (getD l i d)) (number (getD l j d))) ∙ f)

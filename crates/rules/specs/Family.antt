@@ -12,5 +12,5 @@ use Rattle.rules.specs.Tables.{usedToken, isToken}
 
 abbrev pub FamilyInOneVolume : Tables → Type 0
 FamilyInOneVolume t = (j : ℕ) → j < length (t .tokens) → usedToken (getD (t .tokens) j freshToken) ≡ true
-  → (i : ℕ) (k : Token) → find (isToken (getD (t .tokens) j freshToken .parent)) (t .tokens) ≡ hit i k
-  → k .volume ≡ getD (t .tokens) j freshToken .volume
+    → (i : ℕ) (k : Token) → find (isToken (getD (t .tokens) j freshToken .parent)) (t .tokens) ≡ hit i k
+    → k .volume ≡ getD (t .tokens) j freshToken .volume

@@ -38,3 +38,4 @@ pub mod PlaceLaws
 pub mod LoadLaws
 pub mod OneRowLaws
 pub mod StoreLaws
+pub mod ChargeLaws

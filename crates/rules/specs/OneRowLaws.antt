@@ -6,9 +6,9 @@ use Prim.Native.Nat.{ℕ, zero, suc, _+_, _<_, _≤_}
 use native.Mathlib.Nat.{le-of-suc-le-suc, not-suc-le-zero}
 use native.Mathlib.Omega.{arith}
 use lib.ListN.{length, getD, set}
-use Rattle.lists.specs.Lists.{bit, allOf, anyOf, countIf, sumOf, noClash, modify}
+use Rattle.lists.specs.Lists.{bit, anyOf, countIf, sumOf, noClash, modify}
 use Rattle.lists.specs.BoolLaws.{or-left, or-right}
-use Rattle.lists.specs.ModifyLaws.{row-set, all-modify, sum-modify, count-modify, clash-modify}
+use Rattle.lists.specs.ModifyLaws.{row-set, sum-modify, count-modify, clash-modify}
 use borrow.Author.Tests.{not-false}
 
 -- two sums that agree but at one row
@@ -38,15 +38,12 @@ module _ {A : Type 0} (l : List A) (i : ℕ) (x d : A) where
   set-row : set l i x ≡ modify (λ y. x) i l
   set-row = row-set (λ y. x) l i x
 
-  pub all-set : (p : A → Bool) → allOf p l ≡ true → p x ≡ true → allOf p (set l i x) ≡ true
-  all-set p e h = rw set-row (all-modify p (λ y. x) i l d e (λ k. h))
-
   pub sum-set : (f : A → ℕ) → i < length l → sumOf f (set l i x) + f (getD l i d) ≡ sumOf f l + f x
   sum-set f h = rw set-row (sum-modify f (λ y. x) i l d h)
 
   pub count-set : (p : A → Bool) → i < length l → countIf p (set l i x) + bit (p (getD l i d)) ≡ countIf p l + bit (p x)
   count-set p h = rw set-row (count-modify p (λ y. x) i l d h)
 
-  pub clash-set : (clash : A → A → Bool) → noClash clash l ≡ true → ((j : ℕ) → j < i → i < length l → clash (getD l j d) x ≡ false)
+  pub clash-store : (clash : A → A → Bool) → noClash clash l ≡ true → ((j : ℕ) → j < i → i < length l → clash (getD l j d) x ≡ false)
       → ((j : ℕ) → i < j → j < length l → clash x (getD l j d) ≡ false) → noClash clash (set l i x) ≡ true
-  clash-set clash e before after = rw set-row (clash-modify clash (λ y. x) i l d e before after)
+  clash-store clash e before after = rw set-row (clash-modify clash (λ y. x) i l d e before after)

@@ -73,15 +73,15 @@ module _ (p : Entry → Bool) (t : Tables) where
             fits = le-leb (r .used - sumOf bytes (keep p (t .entries))) (r .capacity) (omega (arith, leb-true (r .used) (r .capacity) (f .fits)));
             beat = f .beat;
             used =
-              eq-eqb (r .used - sumOf bytes (keep p (t .entries))) (sumOf bytes (cleared p freshEntry (t .entries)))
-              (left-of (sumOf bytes (cleared p freshEntry (t .entries))) (sumOf bytes (keep p (t .entries))) (sumOf bytes (t .entries)) (r .used)
-              (sum-cleared p freshEntry bytes (t .entries) (fresh-bytes (t .volumes) (r .no)))
-              (eqb-true (r .used) (sumOf bytes (t .entries)) (f .used)));
+                eq-eqb (r .used - sumOf bytes (keep p (t .entries))) (sumOf bytes (cleared p freshEntry (t .entries)))
+                (left-of (sumOf bytes (cleared p freshEntry (t .entries))) (sumOf bytes (keep p (t .entries))) (sumOf bytes (t .entries)) (r .used)
+                (sum-cleared p freshEntry bytes (t .entries) (fresh-bytes (t .volumes) (r .no)))
+                (eqb-true (r .used) (sumOf bytes (t .entries)) (f .used)));
             held =
-              eq-eqb (r .held - sumOf shards (keep p (t .entries))) (sumOf shards (cleared p freshEntry (t .entries)))
-              (left-of (sumOf shards (cleared p freshEntry (t .entries))) (sumOf shards (keep p (t .entries))) (sumOf shards (t .entries)) (r .held)
-              (sum-cleared p freshEntry shards (t .entries) (fresh-shards (r .no)))
-              (eqb-true (r .held) (sumOf shards (t .entries)) (f .held)));
+                eq-eqb (r .held - sumOf shards (keep p (t .entries))) (sumOf shards (cleared p freshEntry (t .entries)))
+                (left-of (sumOf shards (cleared p freshEntry (t .entries))) (sumOf shards (keep p (t .entries))) (sumOf shards (t .entries)) (r .held)
+                (sum-cleared p freshEntry shards (t .entries) (fresh-shards (r .no)))
+                (eqb-true (r .held) (sumOf shards (t .entries)) (f .held)));
           })
 
   -- entries go, and the rest of the tables stays sound

@@ -29,8 +29,9 @@ use Rattle.rules.specs.Commit.{isReplaced, isNewPath, storeNew, storeAt,
 use Rattle.rules.specs.Sound.{sameEntry, samePath}
 use Rattle.rules.specs.BranchLaws.{cond-case}
 use Rattle.rules.specs.TakeLaws.{all-map, any-map, any-and}
-use Rattle.rules.specs.ApartLaws.{either-part, free-used, free-not-used, not-free-used, numbered-given, numbered-same, numbered-symmetric, clash-one}
-use Rattle.rules.specs.OneRowLaws.{sum-but-one, not-all-count, all-set, sum-set, count-set, clash-set}
+use Rattle.rules.specs.NumberLaws.{numbered-eq}
+use Rattle.rules.specs.ApartLaws.{either-part, free-used, free-not-used, not-free-used, numbered-given, numbered-symmetric, clash-one}
+use Rattle.rules.specs.OneRowLaws.{sum-but-one, not-all-count, sum-set, count-set, clash-store}
 use Rattle.rules.specs.LoadLaws.{Staged, putIn, placeIn, entryIn}
 
 -- entries of one volume and path
@@ -43,7 +44,7 @@ module _ (a b : Entry) where
     same-entry-number : b .volume .0 ≡ a .volume .0
     unfolding sameEntry
     same-entry-number =
-        numbered-same (a .volume .0) (b .volume .0)
+        numbered-eq (a .volume .0) (b .volume .0)
         (and-left (numbered (a .volume .0) (b .volume .0)) (sameBytes (textBytes (a .path)) (textBytes (b .path))) e)
 
     same-entry-path : textBytes (a .path) ≡ textBytes (b .path)
@@ -207,7 +208,7 @@ module _ (e : Entry) (news es after : List Entry) (ready : Ready (e ∷ news) es
   still-apart : noClash sameEntry after ≡ true
   still-apart =
       rw (s .set-to)
-      (clash-set es (s .row) e freshEntry sameEntry (ready .apart)
+      (clash-store es (s .row) e freshEntry sameEntry (ready .apart)
       (λ j h k. same-entry-symmetric (getD es j freshEntry) e ∙ s .others j (omega arith) (λ q. omega arith))
       (λ j h k. s .others j k (λ q. omega arith)))
 

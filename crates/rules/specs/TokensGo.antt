@@ -36,7 +36,7 @@ found-used n ks i k e =
 -- the parent of each token that stays, stays
 abbrev pub ParentsStay : (Token → Bool) → List Token → Type 0
 ParentsStay gone ks = (j : ℕ) → j < length ks → usedToken (getD ks j freshToken) ≡ true → gone (getD ks j freshToken) ≡ false
-  → (i : ℕ) (k : Token) → find (isToken (getD ks j freshToken .parent)) ks ≡ hit i k → gone k ≡ false
+    → (i : ℕ) (k : Token) → find (isToken (getD ks j freshToken .parent)) ks ≡ hit i k → gone k ≡ false
 
 module _ (gone : Token → Bool) (ks : List Token) (stay : ParentsStay gone ks) where
   -- what is found of a parent
@@ -110,8 +110,8 @@ module _ (gone : Token → Bool) (t : Tables) (stay : ParentsStay gone (t .token
         entries = all-weaker (soundEntry t) (soundEntry u) (t .entries) (λ x h. entry-same t u refl x refl ∙ h) (s .entries);
         entry-paths = s .entry-paths;
         tokens =
-          all-cleared gone freshToken (soundToken u) (t .tokens) freshToken (free-token u freshToken refl)
-          (λ j b g. token-stays j b g (all-at (soundToken t) (t .tokens) (s .tokens) j b freshToken));
+            all-cleared gone freshToken (soundToken u) (t .tokens) freshToken (free-token u freshToken refl)
+            (λ j b g. token-stays j b g (all-at (soundToken t) (t .tokens) (s .tokens) j b freshToken));
         token-numbers = clash-cleared gone freshToken sameToken (t .tokens) (λ y. refl) (λ x. no-zero (x .no .0)) (s .token-numbers);
         relays = s .relays;
         relay-numbers = s .relay-numbers;
