@@ -39,3 +39,4 @@ pub mod LoadLaws
 pub mod OneRowLaws
 pub mod StoreLaws
 pub mod ChargeLaws
+pub mod CommitSound
