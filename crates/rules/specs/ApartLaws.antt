@@ -1,15 +1,15 @@
 -- Laws of rows that are free or have a number that no other row has. Assumes nothing.
 use mathlib.Core.Path.{_≡_, refl, ap, sym, _∙_}
-use mathlib.Core.Bool.{Bool, true, false, _&&_, _||_, not}
-use mathlib.Core.Logic.{_⊎_, inl, inr, ⊎-elim}
+use mathlib.Core.Bool.{Bool, true, false, _||_, not}
+use mathlib.Core.Logic.{⊎-elim}
 use mathlib.Core.List.{List}
-use Prim.Native.Nat.{ℕ, _<_, _≤_}
+use Prim.Native.Nat.{ℕ, _<_}
 use native.Mathlib.Omega.{arith}
 use lib.Dec.{eqb, ltb}
 use lib.ListN.{length, getD}
-use borrow.Author.Tests.{ltb-true, ltb-false, eqb-true, eqb-false, lt-ltb, le-ltb, eq-eqb, ne-eqb, not-true, not-false}
+use borrow.Author.Tests.{ltb-true, ltb-false, eqb-true, eqb-false, lt-ltb, le-ltb, eq-eqb, not-true, not-false}
 use Rattle.lists.specs.Lists.{noClash}
-use Rattle.lists.specs.BoolLaws.{and-left, and-right, and-both, same-test, pass-or-fail, not-both}
+use Rattle.lists.specs.BoolLaws.{and-left, and-both, same-test, pass-or-fail, not-both}
 use Rattle.lists.specs.TestLaws.{clash-at}
 use Rattle.rules.specs.Tables.{given, numbered}
 use Rattle.rules.specs.NumberLaws.{numbered-eq, sameNumber}

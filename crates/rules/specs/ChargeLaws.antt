@@ -1,16 +1,15 @@
 -- Laws of charged: a commit changes of the tokens nothing but used bytes, and those only of a token that its quota leaves room for. So the
 -- tokens stay sound. Assumes nothing.
 use mathlib.Core.Path.{_≡_, refl, ap, sym, _∙_}
-use mathlib.Core.Bool.{Bool, true, false, _&&_, _||_, cond}
+use mathlib.Core.Bool.{Bool, true, false}
 use mathlib.Core.Logic.{⊎-elim}
-use mathlib.Core.List.{List, [], _∷_, map}
+use mathlib.Core.List.{List, [], map}
 use Prim.Native.Nat.{ℕ, zero, suc, _+_, _<_, _≤_}
 use native.Mathlib.Nat.{le-of-suc-le-suc, not-suc-le-zero}
-use native.Mathlib.Omega.{arith}
-use lib.Dec.{eqb, leb, ltb}
+use lib.Dec.{leb, ltb}
 use lib.ListN.{length, getD, length-map}
 use borrow.Author.Tests.{ltb-false, leb-true, le-leb}
-use Rattle.lists.specs.Lists.{Hit, miss, hit, find, allOf, anyOf, noClash}
+use Rattle.lists.specs.Lists.{Hit, miss, hit, find, anyOf, noClash}
 use Rattle.lists.specs.BoolLaws.{or-right, pass-or-fail}
 use Rattle.lists.specs.SearchLaws.{found-below, found-at, miss-hit}
 use Rattle.lists.specs.TestLaws.{all-at, none-at, any-at, all-weaker}

@@ -39,4 +39,6 @@ pub mod LoadLaws
 pub mod OneRowLaws
 pub mod StoreLaws
 pub mod ChargeLaws
+pub mod StoredSound
+pub mod CommitCases
 pub mod CommitSound

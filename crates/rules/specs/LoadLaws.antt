@@ -1,15 +1,14 @@
 -- Laws of loaded and placeAll: each put that is placed adds its bytes and one shard to the relays that it took and to no others, and no
 -- relay takes more than its capacity. Assumes nothing.
 use mathlib.Core.Path.{_≡_, refl, ap, ap₂, sym, _∙_}
-use mathlib.Core.Bool.{Bool, true, false, _&&_, _||_, cond, not}
-use mathlib.Core.Logic.{⊎-elim}
-use mathlib.Core.List.{List, [], _∷_, _++_, map}
-use Prim.Native.Nat.{ℕ, suc, _+_, _-_, _<_, _≤_}
+use mathlib.Core.Bool.{Bool, true, false, _&&_, cond}
+use mathlib.Core.List.{List, [], _∷_, map}
+use Prim.Native.Nat.{ℕ, _+_, _-_}
 use native.Mathlib.Omega.{arith}
-use lib.Dec.{eqb, leb, ltb}
-use lib.ListN.{length, getD}
+use lib.Dec.{leb}
+use lib.ListN.{getD}
 use borrow.Author.Tests.{leb-true, le-leb}
-use Rattle.lists.specs.Lists.{bit, Hit, hit, find, allOf, anyOf, sumOf, noClash}
+use Rattle.lists.specs.Lists.{bit, hit, find, allOf, sumOf, noClash}
 use Rattle.lists.specs.BoolLaws.{and-left, and-right, and-both}
 use Rattle.lists.specs.RowLaws.{map-after, clash-map}
 use Rattle.rules.specs.declared.VolumeNo.{VolumeNo}
@@ -22,13 +21,13 @@ use Rattle.rules.specs.declared.Put.{Put}
 use Rattle.rules.specs.declared.Tables.{Tables}
 use Rattle.rules.specs.Limits.{eligibleHealth}
 use Rattle.rules.specs.Fresh.{freshRelay}
-use Rattle.rules.specs.Tables.{given, usedRelay, freeRelay, usedEntry, isVolume, withRoom}
+use Rattle.rules.specs.Tables.{given, usedRelay, freeRelay, isVolume, withRoom}
 use Rattle.rules.specs.Relays.{health, shardSize, isEligible, tooFew, taken, placementOf, holdsShard, loaded, shardBytes, bytesOn, shardsOn}
 use Rattle.rules.specs.Commit.{Placed, noPlace, placed, andPlaced, placeAll, entryFor}
 use Rattle.rules.specs.Sound.{isGiven, soundPlacement, sameRelayRow}
 use Rattle.rules.specs.BranchLaws.{cond-case}
 use Rattle.rules.specs.MappedLaws.{all-mapped}
-use Rattle.rules.specs.ApartLaws.{used-not-free, not-free-used, other-part, either-part}
+use Rattle.rules.specs.ApartLaws.{other-part, either-part}
 use Rattle.rules.specs.PlaceLaws.{fitsRelay, taken-eligible, placed-on, place-sound}
 
 -- a relay keeps its number

@@ -3,30 +3,29 @@
 use mathlib.Core.Path.{_≡_, refl, ap, sym, _∙_}
 use mathlib.Core.Bool.{Bool, true, false, _&&_, _||_, cond, not}
 use mathlib.Core.Logic.{⊎-elim}
-use mathlib.Core.List.{List, [], _∷_, _++_, map}
+use mathlib.Core.List.{List, [], _∷_}
 use Prim.Native.Nat.{ℕ, suc, _+_, _-_, _<_, _≤_}
 use native.Mathlib.Omega.{arith}
-use lib.Dec.{eqb, leb, ltb}
+use lib.Dec.{leb}
 use lib.ListN.{length, take, getD, replicate, length-map}
 use lib.Seq.{length-take-le, take-append-seam}
-use borrow.Author.Tests.{ltb-false, eqb-true, eq-eqb, not-true, not-false}
+use borrow.Author.Tests.{ltb-false, eqb-true, eq-eqb, not-true}
 use Rattle.lists.specs.Lists.{bit, allOf, anyOf, countIf, noClash}
 use Rattle.lists.specs.BoolLaws.{and-left, and-right, and-both, or-left, or-right, or-none, pass-or-fail, not-pass, not-both}
 use Rattle.lists.specs.TestLaws.{all-at, at-all, any-at, clash-at, at-clash}
 use Rattle.lists.specs.RowLaws.{clash-map}
 use Rattle.rules.specs.declared.RelayNo.{RelayNo}
 use Rattle.rules.specs.declared.Relay.{Relay}
-use Rattle.rules.specs.declared.Placement.{Placement}
 use Rattle.rules.specs.declared.Volume.{Volume}
 use Rattle.rules.specs.declared.Tables.{Tables}
 use Rattle.rules.specs.Limits.{shardPlaces, eligibleHealth}
 use Rattle.rules.specs.Fresh.{noRelay, freshRelay}
-use Rattle.rules.specs.Tables.{given, numbered, usedRelay, freeRelay}
-use Rattle.rules.specs.Relays.{comesBefore, inOrder, ranked, isEligible, health, tooFew, taken, numberOf, placementOf, placedOn, sameRelay, holdsShard}
-use Rattle.rules.specs.Sound.{isGiven, relayGiven, soundPlacement, sameRelayRow}
+use Rattle.rules.specs.Tables.{usedRelay, freeRelay}
+use Rattle.rules.specs.Relays.{comesBefore, inOrder, ranked, isEligible, health, tooFew, taken, numberOf, placementOf, placedOn, sameRelay}
+use Rattle.rules.specs.Sound.{isGiven, soundPlacement, sameRelayRow}
 use Rattle.rules.specs.BranchLaws.{cond-case}
 use Rattle.rules.specs.TakeLaws.{all-take, clash-take, any-map}
-use Rattle.rules.specs.MappedLaws.{all-mapped, clash-mapped}
+use Rattle.rules.specs.MappedLaws.{all-mapped}
 use Rattle.rules.specs.ApartLaws.{used-not-free, other-part, numbered-symmetric, one-row}
 
 -- a row put into its place: the rows are those that were there and the new one

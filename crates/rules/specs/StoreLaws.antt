@@ -4,33 +4,31 @@ use mathlib.Core.Path.{_≡_, refl, ap, sym, _∙_, fun-ext}
 use mathlib.Core.Bool.{Bool, true, false, _&&_, _||_, cond, not}
 use mathlib.Core.Logic.{_⊎_, inl, inr, ⊎-elim}
 use mathlib.Core.List.{List, [], _∷_, map}
-use Prim.Native.Nat.{ℕ, zero, suc, _+_, _<_, _≤_}
+use Prim.Native.Nat.{ℕ, suc, _+_, _<_, _≤_}
 use native.Mathlib.Omega.{arith}
-use lib.Dec.{eqb, leb, ltb}
+use lib.Dec.{eqb}
 use lib.ListN.{length, getD, set, length-set, List·getD-map}
 use lib.Seq.{map-set-same, getD-set-same, getD-set-other}
-use borrow.Author.Tests.{eq-eqb, eqb-true, eqb-false, not-true}
+use borrow.Author.Tests.{eq-eqb, eqb-true, eqb-false}
 use Rattle.lists.specs.Lists.{bit, Hit, miss, hit, find, allOf, anyOf, countIf, keep, sumOf, noClash}
 use Rattle.lists.specs.Bytes.{sameBytes}
-use Rattle.lists.specs.BoolLaws.{and-left, and-right, and-both, or-none, pass-or-fail, not-pass, not-both}
+use Rattle.lists.specs.BoolLaws.{and-left, and-right, and-both, pass-or-fail, not-pass, not-both}
 use Rattle.lists.specs.SearchLaws.{FoundRow, found-row, some-found, miss-none, row-passes, found-below, found-at}
-use Rattle.lists.specs.TestLaws.{all-at, at-all, none-at, at-none, any-at, at-any, clash-at}
+use Rattle.lists.specs.TestLaws.{all-at, at-all, none-at, at-none, at-any, clash-at}
 use Rattle.lists.specs.SumLaws.{sum-keep}
 use Rattle.lists.specs.RowLaws.{map-agree, map-after, any-same, count-same, clash-map}
 use Rattle.lists.specs.ByteLaws.{same-eq, same-self, same-symmetric}
 use Rattle.text.specs.Text.{textBytes}
 use Rattle.rules.specs.declared.VolumeNo.{VolumeNo}
-use Rattle.rules.specs.declared.Placement.{Placement}
 use Rattle.rules.specs.declared.Entry.{Entry}
-use Rattle.rules.specs.declared.Put.{Put}
 use Rattle.rules.specs.Fresh.{freshEntry, freshPut, freshPlacement}
 use Rattle.rules.specs.Tables.{given, numbered, usedEntry, freeEntry, inVolume, isEntry, isPut}
 use Rattle.rules.specs.Commit.{isReplaced, isNewPath, storeNew, storeAt, storeAll}
 use Rattle.rules.specs.Sound.{sameEntry, samePath}
 use Rattle.rules.specs.BranchLaws.{cond-case}
-use Rattle.rules.specs.TakeLaws.{all-map, any-map, any-and}
+use Rattle.rules.specs.TakeLaws.{any-map, any-and}
 use Rattle.rules.specs.NumberLaws.{numbered-eq}
-use Rattle.rules.specs.ApartLaws.{either-part, free-used, free-not-used, not-free-used, numbered-given, numbered-symmetric, clash-one}
+use Rattle.rules.specs.ApartLaws.{either-part, free-used, free-not-used, numbered-given, numbered-symmetric, clash-one}
 use Rattle.rules.specs.OneRowLaws.{sum-but-one, not-all-count, sum-set, count-set, clash-store}
 use Rattle.rules.specs.LoadLaws.{Staged, putIn, placeIn, entryIn}
 
