@@ -37,7 +37,7 @@ use Rattle.rules.specs.PlaceLaws.{fitsRelay}
 use Rattle.rules.specs.LoadLaws.{Staged, putIn, placeIn, entryIn, grown, PlacedAll, placed-all}
 use Rattle.rules.specs.StoreLaws.{stored, replacedBy, Ready, length-stored, store-all, replaced-same, puts-ready}
 use Rattle.rules.specs.Shape.{Shape}
-use Rattle.rules.specs.Invariant.{Invariant, Follows, follows-self}
+use Rattle.rules.specs.Invariant.{Invariant, follows-self, SlotSound, SlotFollows, fresh-slot}
 use Rattle.rules.specs.ChargeLaws.{charge-rest, charge-family}
 use Rattle.rules.specs.SoundParts.{Parts}
 use Rattle.rules.specs.Family.{FamilyInOneVolume}
@@ -191,16 +191,19 @@ committed-grown t s a = omega arith
 pub commit-sound : (t : Tables) (s : Session) → Parts t → Shape t → soundSession t s ≡ true → Parts (commitRule t s .tables)
 commit-sound t s p shape sound = commit-case (λ o. Parts (o .tables)) t s (λ n. p) (committed-sound t p shape s sound)
 
--- and all that every call keeps
-pub commit-follows : (t : Tables) (s : Session) → Invariant t → soundSession t s ≡ true → Follows t (commitRule t s .tables)
-commit-follows t s inv sound =
-    commit-case (λ o. Follows t (o .tables)) t s (λ n. follows-self inv)
+-- and all that every call on a slot keeps
+pub commit-follows : (t : Tables) → Invariant t → (s : Session) → SlotSound t s → SlotFollows t (commitRule t s)
+commit-follows t inv s h =
+    commit-case (SlotFollows t) t s (λ n. record { tables = follows-self inv; slot = h })
     (λ a.
     record {
-      invariant = record {
-        parts = committed-sound t (inv .parts) (inv .shape) s sound a;
-        shape = committed-shape t (inv .parts) (inv .shape) s sound a;
-        family = committed-family t s a (inv .family);
+      tables = record {
+        invariant = record {
+          parts = committed-sound t (inv .parts) (inv .shape) s (h .session) a;
+          shape = committed-shape t (inv .parts) (inv .shape) s (h .session) a;
+          family = committed-family t s a (inv .family);
+        };
+        grown = committed-grown t s a;
       };
-      grown = committed-grown t s a;
+      slot = fresh-slot (tablesOf t s a);
     })

@@ -32,6 +32,12 @@ pub mod RoomLaws
 pub mod TokensGo
 pub mod OutcomeCases
 pub mod RemoveSound
+pub mod HeldText
+pub mod TokensFollow
+pub mod VolumeSound
+pub mod ChainLaws
+pub mod TokenSound
+pub mod SessionSound
 pub mod TakeLaws
 pub mod ApartLaws
 pub mod PlaceLaws

@@ -25,7 +25,7 @@ or-second : (a b : Bool) → a ≡ false → (a || b) ≡ true → b ≡ true
 or-second true b e h = absurd (true≢false e)
 or-second false b e h = h
 
-or-last : (a b : Bool) → b ≡ true → (a || b) ≡ true
+pub or-last : (a b : Bool) → b ≡ true → (a || b) ≡ true
 or-last true b e = refl
 or-last false b e = e
 
