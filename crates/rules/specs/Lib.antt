@@ -41,3 +41,13 @@ pub mod SessionSound
 pub mod StaysSound
 pub mod FreshSound
 pub mod OneVolumeNeeded
+pub mod TakeLaws
+pub mod ApartLaws
+pub mod PlaceLaws
+pub mod LoadLaws
+pub mod OneRowLaws
+pub mod StoreLaws
+pub mod ChargeLaws
+pub mod StoredSound
+pub mod CommitCases
+pub mod CommitSound
