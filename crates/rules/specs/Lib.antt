@@ -58,3 +58,4 @@ pub mod LiveLaws
 pub mod AdvanceCoins
 pub mod CoinlessCalls
 pub mod CoinLaws
+pub mod Reached
