@@ -78,8 +78,8 @@ module _ (t : Tables) where
         tokens = p .tokens;
         token-numbers = p .token-numbers;
         relays =
-          all-cleared (isDead (t .clock)) freshRelay (soundRelay u) (t .relays) freshRelay (free-relay u freshRelay refl)
-          (λ j b n. all-at (soundRelay t) (t .relays) (p .relays) j b freshRelay);
+            all-cleared (isDead (t .clock)) freshRelay (soundRelay u) (t .relays) freshRelay (free-relay u freshRelay refl)
+            (λ j b n. all-at (soundRelay t) (t .relays) (p .relays) j b freshRelay);
         relay-numbers = clash-cleared (isDead (t .clock)) freshRelay sameRelayRow (t .relays) (λ y. refl) (λ x. no-zero (x .no .0)) (p .relay-numbers);
       }
 

@@ -1,5 +1,5 @@
 -- Laws of a token's chain: when two tables give the same chain, and how long a chain is. Assumes nothing.
-use mathlib.Core.Path.{_≡_, refl, ap, sym, _∙_}
+use mathlib.Core.Path.{_≡_, refl, ap, _∙_}
 use mathlib.Core.List.{List, [], _∷_}
 use Prim.Native.Nat.{ℕ, zero, suc, _≤_}
 use native.Mathlib.Nat.{not-suc-le-zero, le-of-suc-le-suc}
@@ -53,7 +53,3 @@ module _ (ks : List Token) where
   pub chain-parent : (n : ℕ) (k : Token) (i : ℕ) (p : Token) → find (isToken (k .parent)) ks ≡ hit i p → chain (suc n) ks k ≡ k ∷ chain n ks p
   unfolding chain
   chain-parent n k i p e = ap (λ h. k ∷ onHit [] (chain n ks) h) e
-
-  pub chain-root : (n : ℕ) (k : Token) → find (isToken (k .parent)) ks ≡ miss → chain (suc n) ks k ≡ k ∷ []
-  unfolding chain
-  chain-root n k e = ap (λ h. k ∷ onHit [] (chain n ks) h) e

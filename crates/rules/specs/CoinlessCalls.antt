@@ -80,12 +80,12 @@ unfolding createIn liveBalances
 create-in t v miss e z = unmoved-self t
 create-in t v (hit i old) e z = record {
   live =
-    omega (
-      arith,
-      live-set freeVolume (t .volumes) i old v e,
-      free-live old (row-passes freeVolume (t .volumes) 0 i old e),
-      none-live v z,
-    );
+      omega (
+        arith,
+        live-set freeVolume (t .volumes) i old v e,
+        free-live old (row-passes freeVolume (t .volumes) 0 i old e),
+        none-live v z,
+      );
   deposits = refl;
 }
 

@@ -74,13 +74,13 @@ module _ (p : Volume → Bool) (t : Tables) where
         numbers = clash-cleared p freshVolume sameVolume (t .volumes) (λ y. refl) (λ x. no-zero (x .no .0)) (s .volume-numbers);
         names = clash-cleared p freshVolume sameName (t .volumes) (λ y. refl) name-fresh (s .volume-names);
         entries = λ j h.
-          stays-found p (t .volumes) (getD (cleared (entryOfOne gone) freshEntry (t .entries)) j freshEntry .volume)
-          (none-at (entryOfOne gone) (cleared (entryOfOne gone) freshEntry (t .entries))
-          (none-cleared (entryOfOne gone) freshEntry (t .entries) (none-of-zero p (t .volumes))) j h freshEntry);
+            stays-found p (t .volumes) (getD (cleared (entryOfOne gone) freshEntry (t .entries)) j freshEntry .volume)
+            (none-at (entryOfOne gone) (cleared (entryOfOne gone) freshEntry (t .entries))
+            (none-cleared (entryOfOne gone) freshEntry (t .entries) (none-of-zero p (t .volumes))) j h freshEntry);
         tokens = λ j h w.
-          stays-found p (t .volumes) (getD (cleared (tokenOfOne gone) freshToken (t .tokens)) j freshToken .volume)
-          (rw w at (none-at (tokenOfOne gone) (cleared (tokenOfOne gone) freshToken (t .tokens))
-          (none-cleared (tokenOfOne gone) freshToken (t .tokens) refl) j h freshToken));
+            stays-found p (t .volumes) (getD (cleared (tokenOfOne gone) freshToken (t .tokens)) j freshToken .volume)
+            (rw w at (none-at (tokenOfOne gone) (cleared (tokenOfOne gone) freshToken (t .tokens))
+            (none-cleared (tokenOfOne gone) freshToken (t .tokens) refl) j h freshToken));
       }
 
   collect-rest : Rest t → FamilyInOneVolume t → Rest (collect p t)

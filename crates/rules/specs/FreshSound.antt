@@ -3,7 +3,7 @@ use mathlib.Core.Path.{_≡_, refl, sym}
 use mathlib.Core.Bool.{true, true≢false}
 use Prim.Native.Nat.{ℕ}
 use lib.ListN.{getD-replicate}
-use Rattle.lists.specs.Lists.{allOf, anyOf, noClash, sumOf}
+use Rattle.lists.specs.Lists.{allOf, anyOf, noClash}
 use Rattle.rules.specs.Limits.{tokenRows}
 use Rattle.rules.specs.Fresh.{freshToken, freshDesk}
 use Rattle.rules.specs.Sound.{sound, soundTables, soundVolumes, soundEntries, soundTokens, soundRelays, soundVolume, soundEntry, soundToken, soundRelay, soundSession, sameName, sameEntry}

@@ -1,14 +1,13 @@
 -- Laws of a text that holds given bytes: it gives them back, and it passes where they are a name, a path or a prefix. Assumes nothing.
-use mathlib.Core.Path.{_≡_, refl}
-use mathlib.Core.Bool.{Bool, true, _&&_}
-use mathlib.Core.List.{List, [], _∷_, _++_}
+use mathlib.Core.Path.{_≡_}
+use mathlib.Core.Bool.{Bool, true}
+use mathlib.Core.List.{List, [], _∷_}
 use Prim.Native.Nat.{ℕ, _-_, _≤_}
 use native.Mathlib.Omega.{arith}
 use borrow.Author.Tests.{leb-true, le-leb}
-use lib.Dec.{eqb, leb}
-use lib.ListN.{length, getD, replicate}
+use lib.Dec.{leb}
+use lib.ListN.{length, replicate}
 use lib.Seq.{take-append-seam}
-use Rattle.lists.specs.Lists.{allOf}
 use Rattle.lists.specs.BoolLaws.{and-left, and-right, and-both}
 use Rattle.text.specs.Text.{pathLimit, nameLimit, isName, isPath, isPathAndSlash, isPrefix, textBytes, toText, holds}
 

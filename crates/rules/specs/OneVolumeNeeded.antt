@@ -3,17 +3,13 @@
 use mathlib.Core.Path.{_≡_, refl}
 use mathlib.Core.Bool.{true, false}
 use mathlib.Core.List.{[], _∷_}
-use Prim.Native.Nat.{ℕ}
 use lib.ListN.{replicate}
 use Rattle.amount.specs.declared.Cap.the-variants.{Unlimited}
-use Rattle.lists.specs.Lists.{firstRow, allOf, anyOf, noClash, sumOf}
+use Rattle.lists.specs.Lists.{firstRow, allOf, anyOf, noClash}
 use Rattle.lists.specs.Bytes.{sameBytes}
-use Rattle.text.specs.Text.{toText, isName, isPrefix}
-use Rattle.rules.specs.declared.VolumeNo.{VolumeNo}
-use Rattle.rules.specs.declared.TokenNo.{TokenNo}
+use Rattle.text.specs.Text.{isName, isPrefix}
 use Rattle.rules.specs.declared.Volume.{Volume}
 use Rattle.rules.specs.declared.Token.{Token}
-use Rattle.rules.specs.declared.Tables.{Tables}
 use Rattle.rules.specs.declared.Desk.{Desk}
 use Rattle.rules.specs.Limits.{slotRows, entryRows, relayRows}
 use Rattle.rules.specs.Fresh.{freshAccount, freshScope, freshVolume, freshEntry, freshToken, freshRelay, freshSession}

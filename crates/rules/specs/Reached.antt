@@ -1,7 +1,7 @@
 -- Every desk that is reached from a fresh one, by any list of calls and with any rate, is sound: so no call on it is answered 1 for the desk
 -- itself. Assumes nothing.
-use mathlib.Core.Path.{_≡_, refl}
-use mathlib.Core.Bool.{true, cond}
+use mathlib.Core.Path.{_≡_}
+use mathlib.Core.Bool.{true}
 use mathlib.Core.List.{List}
 use Prim.Native.Nat.{ℕ}
 use Rattle.rules.specs.declared.Desk.{Desk}

@@ -1,15 +1,15 @@
 -- Register and heartbeat leave sound tables sound. Assumes nothing.
 use mathlib.Core.Path.{_≡_, refl, ap, sym, _∙_}
-use mathlib.Core.Bool.{Bool, true, false, _&&_, cond, false≢true}
+use mathlib.Core.Bool.{true, false, _&&_, false≢true}
 use mathlib.Core.Logic.{⊎-elim}
-use mathlib.Core.List.{List, [], _∷_}
+use mathlib.Core.List.{List}
 use Prim.Native.Nat.{ℕ, _+_, _≤_, _<_}
 use native.Mathlib.Omega.{arith}
-use borrow.Author.Tests.{leb-true, leb-false, le-leb, lt-leb, ltb-false, eq-eqb, eqb-true}
+use borrow.Author.Tests.{leb-false, le-leb, ltb-false, eq-eqb, eqb-true}
 use lib.Dec.{eqb, leb, ltb}
 use lib.ListN.{length, getD, set, length-set}
-use Rattle.lists.specs.Lists.{bit, Hit, miss, hit, find, allOf, anyOf, sumOf, noClash}
-use Rattle.lists.specs.BoolLaws.{and-left, and-right, and-both, pass-or-fail, not-pass}
+use Rattle.lists.specs.Lists.{Hit, miss, hit, find, allOf, sumOf, noClash}
+use Rattle.lists.specs.BoolLaws.{and-left, and-right, pass-or-fail, not-pass}
 use Rattle.lists.specs.TestLaws.{all-at, at-none, all-weaker}
 use Rattle.lists.specs.SearchLaws.{found-at, row-passes}
 use Rattle.lists.specs.SumLaws.{sum-le}
@@ -21,18 +21,16 @@ use Rattle.rules.specs.declared.Relay.{Relay}
 use Rattle.rules.specs.declared.Tables.{Tables}
 use Rattle.rules.specs.declared.TablesOutcome.{TablesOutcome}
 use Rattle.rules.specs.Limits.{capacityLimit, lastNumber}
-use Rattle.rules.specs.Numbers.{BAD, SPENT, ROOM, NO-RELAY}
+use Rattle.rules.specs.Numbers.{BAD, SPENT, NO-RELAY}
 use Rattle.rules.specs.Fresh.{noRelay, freshEntry, freshRelay}
 use Rattle.rules.specs.Tables.{usedEntry, usedRelay, freeRelay, isRelay, isVolume, relayOf, withRelays, withLastRelay, withBeat}
-use Rattle.rules.specs.Relays.{health, placedOn, sameRelay, holdsShard, bytesOn, shardsOn, shardBytes}
-use Rattle.rules.specs.Outcome.{refused, accepted}
-use Rattle.rules.specs.Sound.{isGiven, relayGiven, soundPlacement, soundIn, soundVolume, soundEntry, soundToken, soundRelay, sameRelayRow}
-use Rattle.rules.specs.SoundParts.{Parts}
+use Rattle.rules.specs.Relays.{health, placedOn, sameRelay, holdsShard, bytesOn, shardsOn}
+use Rattle.rules.specs.Outcome.{refused}
+use Rattle.rules.specs.Sound.{relayGiven, soundPlacement, soundIn, soundVolume, soundEntry, soundToken, soundRelay, sameRelayRow}
 use Rattle.rules.specs.RelayCalls.{newRelay, registerIn, registerRule, heartbeatIn, heartbeatRule}
-use Rattle.rules.specs.Shape.{Shape}
 use Rattle.rules.specs.SetLaws.{all-set}
 use Rattle.rules.specs.BranchLaws.{cond-case}
-use Rattle.rules.specs.NumberLaws.{numbered-used, sameNumber, found-passes, same-number, new-number}
+use Rattle.rules.specs.NumberLaws.{numbered-used, found-passes, same-number, new-number}
 use Rattle.rules.specs.RowFacts.{entry-facts, relay-facts, facts-relay, count-facts, facts-counts}
 use Rattle.rules.specs.RowsKept.{Grown, given-le, le-given, volume-grown, entry-grown, relay-grown, token-stays}
 use Rattle.rules.specs.Invariant.{Invariant, Follows, follows-self, follows-on, counts-grow}

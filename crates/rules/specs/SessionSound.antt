@@ -1,22 +1,22 @@
 -- Open, stage and abandon leave the tables as they are and the slot sound. Assumes nothing.
 use mathlib.Core.Path.{_≡_, refl, ap, sym, _∙_}
-use mathlib.Core.Bool.{Bool, true, false, _&&_, cond, not}
-use mathlib.Core.List.{List, [], _∷_, _++_, map}
-use Prim.Native.Nat.{ℕ, zero, suc, _+_, _≤_, _<_}
+use mathlib.Core.Bool.{true, _&&_, not}
+use mathlib.Core.List.{List, [], _∷_, _++_}
+use Prim.Native.Nat.{ℕ, _+_, _<_}
 use native.Mathlib.Numerals.{add-one}
 use native.Mathlib.Omega.{arith}
-use borrow.Author.Tests.{leb-true, leb-false, le-leb, not-false, not-true}
+use borrow.Author.Tests.{leb-false, le-leb, not-false}
 use lib.Dec.{leb}
-use lib.ListN.{length, getD, set, take, replicate, length-set, length-take, length-replicate}
+use lib.ListN.{set, length-set, length-take}
 use lib.Seq.{take-set-lt, take-suc-set, map-set-same}
-use Rattle.lists.specs.Lists.{Hit, miss, hit, find, allOf, anyOf, noClash}
+use Rattle.lists.specs.Lists.{Hit, miss, hit, find, allOf, noClash}
 use Rattle.lists.specs.Bytes.{sameBytes}
 use Rattle.lists.specs.ByteLaws.{same-eq}
 use Rattle.lists.specs.BoolLaws.{and-left, and-right, and-both}
-use Rattle.lists.specs.TestLaws.{all-append, at-none, none-at}
+use Rattle.lists.specs.TestLaws.{all-append}
 use Rattle.lists.specs.SearchLaws.{found-at, found-below, row-passes, miss-none}
 use Rattle.lists.specs.RowLaws.{clash-map}
-use Rattle.text.specs.Text.{isPath, covers, textBytes, toText}
+use Rattle.text.specs.Text.{isPath, covers, textBytes}
 use Rattle.rules.specs.declared.VolumeNo.{VolumeNo}
 use Rattle.rules.specs.declared.TokenNo.{TokenNo}
 use Rattle.rules.specs.declared.Hash.{Hash}
@@ -28,19 +28,19 @@ use Rattle.rules.specs.declared.Session.{Session}
 use Rattle.rules.specs.declared.Tables.{Tables}
 use Rattle.rules.specs.declared.SlotOutcome.{SlotOutcome}
 use Rattle.rules.specs.Limits.{putRows, sizeLimit}
-use Rattle.rules.specs.Numbers.{BAD, NO-TOKEN, WINDOW, MODE, PREFIX, STATE, ROOM, SESSION}
+use Rattle.rules.specs.Numbers.{BAD, WINDOW, MODE, PREFIX, STATE, ROOM, SESSION}
 use Rattle.rules.specs.Fresh.{freshPut, freshSession}
 use Rattle.rules.specs.Tables.{busy, staged, isPut, isToken, isVolume, volumeOf, tokenOf}
 use Rattle.rules.specs.Scope.{inWindow, canWrite}
 use Rattle.rules.specs.Outcome.{slotRefused, slotAccepted}
 use Rattle.rules.specs.VolumeCalls.{isActive}
-use Rattle.rules.specs.Sound.{soundVolume, soundToken, soundPut, samePath, soundSession}
+use Rattle.rules.specs.Sound.{soundVolume, soundToken, soundPut, samePath}
 use Rattle.rules.specs.SessionCalls.{opened, openVolume, openToken, openRule, withPuts, newPut, stagePut, stageToken, stageRule, abandonRule}
 use Rattle.rules.specs.SetLaws.{all-set, clash-last}
 use Rattle.rules.specs.BranchLaws.{cond-case}
 use Rattle.rules.specs.NumberLaws.{numbered-used, found-passes}
 use Rattle.rules.specs.RowFacts.{volume-facts, token-facts, SessionFacts, session-facts, facts-session}
-use Rattle.rules.specs.Invariant.{Invariant, Follows, follows-self, SlotSound, SlotFollows, fresh-slot}
+use Rattle.rules.specs.Invariant.{Invariant, follows-self, SlotSound, SlotFollows, fresh-slot}
 use Rattle.rules.specs.HeldText.{text-bytes, path-held}
 
 -- the tables stay as they are

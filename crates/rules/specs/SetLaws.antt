@@ -1,13 +1,12 @@
 -- Laws of a table with one row stored: what tests, searches and clashes say after it, for any kind of row. Assumes nothing.
-use mathlib.Core.Path.{_≡_, refl, ap, sym, _∙_}
-use mathlib.Core.Bool.{Bool, true, false, _||_, cond, not}
+use mathlib.Core.Path.{_≡_, refl}
+use mathlib.Core.Bool.{Bool, true, false, not}
 use mathlib.Core.List.{List, [], _∷_, _++_}
 use Prim.Native.Nat.{ℕ, zero, suc, _<_}
-use native.Mathlib.Nat.{le-of-suc-le-suc, not-suc-le-zero}
 use native.Mathlib.Omega.{arith}
 use borrow.Author.Tests.{not-true}
 use lib.ListN.{length, getD, set}
-use Rattle.lists.specs.Lists.{Hit, miss, hit, firstRow, find, allOf, anyOf, noClash, modify}
+use Rattle.lists.specs.Lists.{firstRow, allOf, anyOf, noClash}
 use Rattle.lists.specs.BoolLaws.{and-left, and-right, or-left, or-right}
 use Rattle.lists.specs.TestLaws.{any-append}
 use Rattle.lists.specs.ModifyLaws.{row-set, all-modify, clash-modify}

@@ -1,14 +1,13 @@
 -- Every call on a sound desk leaves a sound one, and so does every list of calls. Beside the test of the desk the theorem carries that each
 -- table has its rows, that each slot has its places, and that each token is of its parent's volume (OneVolumeNeeded shows a desk that passes
 -- the test, lacks the last, and fails the test after a delete). Assumes nothing.
-use mathlib.Core.Path.{_≡_, refl, sym, _∙_}
-use mathlib.Core.Bool.{Bool, true, false, cond}
+use mathlib.Core.Path.{_≡_, _∙_}
+use mathlib.Core.Bool.{Bool, true}
 use mathlib.Core.List.{List, [], _∷_}
 use Prim.Native.Nat.{ℕ, _<_}
-use native.Mathlib.Omega.{arith}
 use borrow.Author.Tests.{leb-false, eqb-true, eq-eqb}
 use lib.Dec.{eqb, leb}
-use lib.ListN.{length, getD, set, length-set}
+use lib.ListN.{length, getD, length-set}
 use Rattle.lists.specs.Lists.{allOf}
 use Rattle.lists.specs.TestLaws.{all-at, all-weaker}
 use Rattle.rules.specs.declared.VolumeNo.{VolumeNo}
@@ -21,7 +20,7 @@ use Rattle.rules.specs.declared.SlotOutcome.{SlotOutcome}
 use Rattle.rules.specs.Limits.{slotRows, putRows}
 use Rattle.rules.specs.Numbers.{BAD}
 use Rattle.rules.specs.Fresh.{freshSession}
-use Rattle.rules.specs.Outcome.{deskRefused, onTables}
+use Rattle.rules.specs.Outcome.{deskRefused}
 use Rattle.rules.specs.Sound.{soundSession, sound}
 use Rattle.rules.specs.SoundParts.{tables-sound, slots-sound, desk-sound}
 use Rattle.rules.specs.Advance.{advanceRule}

@@ -1,19 +1,19 @@
 -- Grant, attenuate, revoke and look leave sound tables sound. Assumes nothing.
 use mathlib.Core.Path.{_≡_, refl, ap, sym, _∙_}
-use mathlib.Core.Bool.{Bool, true, false, _&&_, _||_, cond, not}
-use mathlib.Core.Logic.{_⊎_, inl, inr, ⊎-elim}
+use mathlib.Core.Bool.{Bool, true, false, _||_, not}
+use mathlib.Core.Logic.{⊎-elim}
 use mathlib.Core.List.{List, [], _∷_}
-use Prim.Native.Nat.{ℕ, zero, suc, _+_, _≤_, _<_}
+use Prim.Native.Nat.{ℕ, suc, _+_, _≤_, _<_}
 use native.Mathlib.Omega.{arith}
-use borrow.Author.Tests.{leb-true, leb-false, le-leb, lt-ltb, ltb-false, eqb-true, eqb-false, not-false}
-use lib.Dec.{eqb, leb, ltb}
+use borrow.Author.Tests.{leb-true, leb-false, le-leb, ltb-false, eqb-true, eqb-false, not-false}
+use lib.Dec.{eqb, leb}
 use lib.ListN.{length, getD, set, length-set}
 use lib.Seq.{getD-set-same, getD-set-other}
-use Rattle.lists.specs.Lists.{Hit, miss, hit, firstRow, find, allOf, anyOf, noClash}
+use Rattle.lists.specs.Lists.{Hit, miss, hit, firstRow, find, allOf, anyOf}
 use Rattle.lists.specs.BoolLaws.{and-left, and-right, and-both, pass-or-fail, not-pass, not-both}
 use Rattle.lists.specs.TestLaws.{all-at, any-at, all-weaker}
 use Rattle.lists.specs.SearchLaws.{found-at, row-passes, miss-hit}
-use Rattle.text.specs.Text.{isPath, isPrefix, covers, textBytes, toText}
+use Rattle.text.specs.Text.{isPath, covers, textBytes}
 use Rattle.rules.specs.declared.VolumeNo.{VolumeNo}
 use Rattle.rules.specs.declared.TokenNo.{TokenNo}
 use Rattle.rules.specs.declared.Account.{Account}
@@ -22,24 +22,24 @@ use Rattle.rules.specs.declared.Entry.{Entry}
 use Rattle.rules.specs.declared.Token.{Token}
 use Rattle.rules.specs.declared.Tables.{Tables}
 use Rattle.rules.specs.declared.TablesOutcome.{TablesOutcome}
-use Rattle.rules.specs.Limits.{lastNumber, deepest, usedLimit}
-use Rattle.rules.specs.Numbers.{BAD, NO-VOLUME, NOT-OWNER, NO-TOKEN, WINDOW, MODE, PREFIX, STATE, ROOM, NO-ENTRY, WIDENS, DEEP, SPENT}
+use Rattle.rules.specs.Limits.{lastNumber, deepest}
+use Rattle.rules.specs.Numbers.{BAD, NOT-OWNER, WINDOW, MODE, PREFIX, STATE, WIDENS, DEEP, SPENT}
 use Rattle.rules.specs.Fresh.{noToken, freshToken}
-use Rattle.rules.specs.Tables.{usedToken, freeToken, isToken, isVolume, ownedBy, volumeOf, tokenOf, entryOf, withTokens, withLastToken, cleared}
-use Rattle.rules.specs.Scope.{ScopeArg, capFits, scopeFits, narrows, toScope, onHit, chain, family, depth, descends, inWindow, canRead}
+use Rattle.rules.specs.Tables.{usedToken, freeToken, isToken, isVolume, ownedBy, volumeOf, tokenOf, entryOf, withTokens, withLastToken}
+use Rattle.rules.specs.Scope.{ScopeArg, scopeFits, narrows, toScope, onHit, chain, family, depth, descends, inWindow, canRead}
 use Rattle.rules.specs.Outcome.{refused}
 use Rattle.rules.specs.VolumeCalls.{isOpen}
-use Rattle.rules.specs.Sound.{soundToken, volumeThere, parentThere, sameToken}
+use Rattle.rules.specs.Sound.{soundToken, volumeThere, parentThere}
 use Rattle.rules.specs.TokenCalls.{tokenIn, nextToken, newToken, grantIn, grantRule, attenuateIn, attenuateRule, revokeOwner, revokeIn, revokeRule, lookEntry, lookIn, lookRule}
 use Rattle.rules.specs.MappedLaws.{mapHit, found-any}
 use Rattle.rules.specs.RoomLaws.{no-zero}
 use Rattle.rules.specs.SetLaws.{all-set, find-set}
 use Rattle.rules.specs.BranchLaws.{cond-case}
 use Rattle.rules.specs.NumberLaws.{numbered-used, numbered-eq, numbered-other, found-passes, found-some, new-number}
-use Rattle.rules.specs.RowFacts.{or-last, TokenFacts, token-facts, facts-token, count-facts, facts-counts}
-use Rattle.rules.specs.RowsKept.{Grown, given-le, le-given, token-grown}
+use Rattle.rules.specs.RowFacts.{or-last, token-facts, facts-token, count-facts, facts-counts}
+use Rattle.rules.specs.RowsKept.{given-le, le-given, token-grown}
 use Rattle.rules.specs.Invariant.{Invariant, Follows, follows-self, follows-on, counts-grow}
-use Rattle.rules.specs.ChainLaws.{chain-same, chain-longer, chain-ended, chain-parent, chain-root}
+use Rattle.rules.specs.ChainLaws.{chain-same, chain-longer, chain-ended, chain-parent}
 use Rattle.rules.specs.Family.{FamilyInOneVolume}
 use Rattle.rules.specs.TokensGo.{ParentsStay}
 use Rattle.rules.specs.TokensFollow.{tokens-change, tokens-leave}

@@ -1,9 +1,8 @@
 -- Tokens change: the tables follow where each new row is sound and no two have one number, and where tokens go with their descendants.
 -- Assumes nothing.
-use mathlib.Core.Path.{_≡_, refl, ap, sym, _∙_}
-use mathlib.Core.Bool.{Bool, true, false}
+use mathlib.Core.Path.{_≡_, refl, _∙_}
+use mathlib.Core.Bool.{Bool, true}
 use mathlib.Core.List.{List}
-use Prim.Native.Nat.{ℕ}
 use native.Mathlib.Omega.{arith}
 use lib.ListN.{length}
 use Rattle.lists.specs.Lists.{allOf, noClash}
@@ -13,7 +12,6 @@ use Rattle.rules.specs.declared.Tables.{Tables}
 use Rattle.rules.specs.Fresh.{freshToken}
 use Rattle.rules.specs.Tables.{withTokens, cleared}
 use Rattle.rules.specs.Sound.{soundVolume, soundEntry, soundToken, soundRelay, sameToken}
-use Rattle.rules.specs.SoundParts.{Parts}
 use Rattle.rules.specs.RestParts.{rest-of}
 use Rattle.rules.specs.ClearedLaws.{length-cleared}
 use Rattle.rules.specs.TokensGo.{ParentsStay, tokens-go, family-stays}

@@ -1,16 +1,16 @@
 -- Create, deposit, delete and undelete leave sound tables sound. Assumes nothing.
 use mathlib.Core.Path.{_≡_, refl, ap, sym, _∙_}
-use mathlib.Core.Bool.{Bool, true, false, _&&_, _||_, cond, not, false≢true}
+use mathlib.Core.Bool.{true, false, _&&_, not, false≢true}
 use mathlib.Core.Logic.{⊎-elim}
-use mathlib.Core.List.{List, [], _∷_, map}
+use mathlib.Core.List.{List}
 use Prim.Native.Nat.{ℕ, _+_, _≤_, _<_}
 use native.Mathlib.Omega.{arith}
 use borrow.Author.Tests.{leb-true, leb-false, le-leb, ltb-false, eqb-true, not-false}
-use lib.Dec.{eqb, leb, ltb}
+use lib.Dec.{leb, ltb}
 use lib.ListN.{length, getD, set, length-set}
 use lib.Seq.{map-set-same}
 use Rattle.amount.specs.declared.Cap.{Cap}
-use Rattle.lists.specs.Lists.{Hit, miss, hit, find, allOf, anyOf, noClash}
+use Rattle.lists.specs.Lists.{Hit, miss, hit, find, allOf, anyOf}
 use Rattle.lists.specs.Bytes.{sameBytes}
 use Rattle.lists.specs.ByteLaws.{same-symmetric}
 use Rattle.lists.specs.BoolLaws.{and-left, and-right, and-both, or-left, or-right, pass-or-fail, not-pass, not-both}
@@ -28,14 +28,13 @@ use Rattle.rules.specs.declared.Token.{Token}
 use Rattle.rules.specs.declared.Tables.{Tables}
 use Rattle.rules.specs.declared.TablesOutcome.{TablesOutcome}
 use Rattle.rules.specs.Limits.{balanceLimit, depositsLimit, lastNumber}
-use Rattle.rules.specs.Numbers.{BAD, NO-VOLUME, NOT-OWNER, STATE, ROOM, TOO-MUCH, SPENT, NAME-TAKEN}
+use Rattle.rules.specs.Numbers.{BAD, NOT-OWNER, STATE, TOO-MUCH, SPENT, NAME-TAKEN}
 use Rattle.rules.specs.Fresh.{freshVolume, freshEntry, freshToken}
 use Rattle.rules.specs.Tables.{numbered, usedVolume, usedEntry, usedToken, freeVolume, isVolume, ownedBy, volumeOf, withVolumes, withTokens, withLastVolume, withDeposits, withBalance, withStatus, cleared}
 use Rattle.rules.specs.Scope.{capFits}
-use Rattle.rules.specs.Outcome.{refused, accepted}
-use Rattle.rules.specs.Sound.{soundStatus, shardsFit, soundVolume, soundEntry, soundToken, soundIn, volumeThere, sameVolume, sameName}
+use Rattle.rules.specs.Outcome.{refused}
+use Rattle.rules.specs.Sound.{soundStatus, shardsFit, soundVolume, soundEntry, soundToken, soundIn, volumeThere, sameName}
 use Rattle.rules.specs.VolumeCalls.{isOpen, isDeleted, hasName, newVolume, createIn, createRule, tooMuch, depositIn, depositRule, isTokenOf, deleteIn, deleteRule, undeleteIn, undeleteRule}
-use Rattle.rules.specs.SoundParts.{Parts}
 use Rattle.rules.specs.RestParts.{Rest, rest-of, with-volumes}
 use Rattle.rules.specs.MappedLaws.{mapHit}
 use Rattle.rules.specs.LastingLaws.{lasting, lastingOf, ReadSame, volumes-change, lasting-change}
@@ -43,7 +42,7 @@ use Rattle.rules.specs.RoomLaws.{no-zero}
 use Rattle.rules.specs.SetLaws.{all-set, clash-set, find-set}
 use Rattle.rules.specs.BranchLaws.{cond-case}
 use Rattle.rules.specs.NumberLaws.{numbered-used, numbered-eq, numbered-other, found-passes, found-some, new-number}
-use Rattle.rules.specs.RowFacts.{VolumeFacts, volume-facts, facts-volume, entry-facts, token-facts, CountFacts, count-facts, facts-counts}
+use Rattle.rules.specs.RowFacts.{VolumeFacts, volume-facts, facts-volume, entry-facts, token-facts, count-facts, facts-counts}
 use Rattle.rules.specs.RowsKept.{Grown, given-le, le-given, volume-grown}
 use Rattle.rules.specs.Invariant.{Invariant, Follows, follows-self, follows-on, counts-grow}
 use Rattle.rules.specs.TokensGo.{ParentsStay}
