@@ -1,32 +1,29 @@
--- Laws of numbers that no two rows have: the row of a number is the one that a search finds, and numbers stay apart where a row keeps its
--- own or takes a new one. Assumes nothing.
+-- Laws of numbers that no two rows have: what a search for one finds, and that they stay apart where a row keeps its own or takes a new one.
+-- Assumes nothing.
 use mathlib.Core.Path.{_≡_, refl, ap, sym, _∙_}
-use mathlib.Core.Bool.{Bool, true, false, _&&_}
-use mathlib.Core.List.{List, [], _∷_, map}
-use Prim.Native.Nat.{ℕ, zero, suc, _<_}
+use mathlib.Core.Bool.{Bool, true, false}
+use mathlib.Core.List.{List}
+use Prim.Native.Nat.{ℕ, _<_}
 use native.Mathlib.Omega.{arith}
-use borrow.Author.Tests.{ltb-true, lt-ltb, eqb-true, eq-eqb}
+use borrow.Author.Tests.{ltb-true, lt-ltb, eqb-true}
 use lib.Dec.{eqb}
 use lib.ListN.{length, getD, set}
 use lib.Seq.{map-set-same}
-use Rattle.lists.specs.Lists.{Hit, hit, find, allOf, anyOf, noClash}
-use Rattle.lists.specs.BoolLaws.{and-left, and-right, and-both, not-both, not-pass}
-use Rattle.lists.specs.SearchLaws.{found-below, found-at, row-passes, row-first, FoundRow, found-row}
-use Rattle.lists.specs.TestLaws.{all-at, at-any, at-found, clash-at}
+use Rattle.lists.specs.Lists.{hit, find, allOf, anyOf, noClash}
+use Rattle.lists.specs.BoolLaws.{and-left, and-right, not-pass}
+use Rattle.lists.specs.SearchLaws.{found-below, found-at, row-passes}
+use Rattle.lists.specs.TestLaws.{all-at, at-any}
 use Rattle.lists.specs.RowLaws.{clash-map}
 use Rattle.rules.specs.Tables.{given, numbered}
 use Rattle.rules.specs.SetLaws.{clash-set}
 
--- a row of a number that was given: it is in use, and the number is its own; and back
+-- a row of a number that was given: it is in use, and the number is its own
 pub numbered-used : (n m : ℕ) → numbered n m ≡ true → given m ≡ true
 numbered-used n m e =
     lt-ltb 0 m (omega (arith, ltb-true 0 n (and-left (given n) (eqb m n) e), eqb-true m n (and-right (given n) (eqb m n) e)))
 
 pub numbered-eq : (n m : ℕ) → numbered n m ≡ true → m ≡ n
 numbered-eq n m e = eqb-true m n (and-right (given n) (eqb m n) e)
-
-pub eq-numbered : (n m : ℕ) → given n ≡ true → m ≡ n → numbered n m ≡ true
-eq-numbered n m u e = and-both u (eq-eqb m n e)
 
 pub numbered-other : (n m : ℕ) → (m ≡ n → ⊥) → numbered n m ≡ false
 numbered-other n m h = not-pass (numbered n m) (λ e. h (numbered-eq n m e))
@@ -41,34 +38,8 @@ module _ {A : Type 0} where
   found-passes p q l i x a e = rw (found-at p l i x e x) at (all-at q l a i (found-below p l i x e) x)
 
   -- some row passes where one is found
-  pub found-any : (p : A → Bool) (l : List A) (i : ℕ) (x : A) → find p l ≡ hit i x → anyOf p l ≡ true
-  found-any p l i x e = at-any p l i x (found-below p l i x e) (rw (found-at p l i x e x) (row-passes p l 0 i x e))
-
-  -- a row's number finds the row
-  pub number-found : (f : A → ℕ) (l : List A) (d : A) → noClash (sameNumber f) l ≡ true → (n j : ℕ) → j < length l
-      → numbered n (f (getD l j d)) ≡ true → find (λ x. numbered n (f x)) l ≡ hit j (getD l j d)
-  number-found f l d c n j h e = go (at-found p l 0 j d h e)
-    where
-      p : A → Bool
-      p x = numbered n (f x)
-
-      before : (i : ℕ) (x : A) → find p l ≡ hit i x → i < j → ⊥
-      before i x q k =
-          let r : numbered n (f (getD l i d)) ≡ true = rw (found-at p l i x q d) (row-passes p l 0 i x q) in
-          not-both
-          (eq-numbered (f (getD l i d)) (f (getD l j d)) (numbered-used n (f (getD l i d)) r)
-          (numbered-eq n (f (getD l j d)) e ∙ sym (numbered-eq n (f (getD l i d)) r)))
-          (clash-at (sameNumber f) l c i j k h d)
-
-      after : (i : ℕ) (x : A) → find p l ≡ hit i x → j < i → ⊥
-      after i x q k = not-both e (row-first p l 0 i j x d q (omega arith))
-
-      go : FoundRow (find p l) → find p l ≡ hit j (getD l j d)
-      go (found-row i x q) =
-          let b = before i x q in
-          let a = after i x q in
-          let w : i ≡ j = omega arith in
-          q ∙ rw (← (found-at p l i x q d), w)
+  pub found-some : (p : A → Bool) (l : List A) (i : ℕ) (x : A) → find p l ≡ hit i x → anyOf p l ≡ true
+  found-some p l i x e = at-any p l i x (found-below p l i x e) (rw (found-at p l i x e x) (row-passes p l 0 i x e))
 
   -- a row that keeps its number
   pub same-number : (f : A → ℕ) (l : List A) (i : ℕ) (y d : A) → f y ≡ f (getD l i d) → noClash (sameNumber f) (set l i y) ≡ noClash (sameNumber f) l

@@ -1,15 +1,15 @@
 -- Register and heartbeat leave sound tables sound. Assumes nothing.
 use mathlib.Core.Path.{_≡_, refl, ap, sym, _∙_}
-use mathlib.Core.Bool.{Bool, true, false, _&&_, cond, false≢true}
+use mathlib.Core.Bool.{true, false, _&&_, false≢true}
 use mathlib.Core.Logic.{⊎-elim}
-use mathlib.Core.List.{List, [], _∷_}
+use mathlib.Core.List.{List}
 use Prim.Native.Nat.{ℕ, _+_, _≤_, _<_}
 use native.Mathlib.Omega.{arith}
-use borrow.Author.Tests.{leb-true, leb-false, le-leb, lt-leb, ltb-false, eq-eqb, eqb-true}
+use borrow.Author.Tests.{leb-false, le-leb, ltb-false, eq-eqb, eqb-true}
 use lib.Dec.{eqb, leb, ltb}
 use lib.ListN.{length, getD, set, length-set}
-use Rattle.lists.specs.Lists.{bit, Hit, miss, hit, find, allOf, anyOf, sumOf, noClash}
-use Rattle.lists.specs.BoolLaws.{and-left, and-right, and-both, pass-or-fail, not-pass}
+use Rattle.lists.specs.Lists.{Hit, miss, hit, find, allOf, sumOf, noClash}
+use Rattle.lists.specs.BoolLaws.{and-left, and-right, pass-or-fail, not-pass}
 use Rattle.lists.specs.TestLaws.{all-at, at-none, all-weaker}
 use Rattle.lists.specs.SearchLaws.{found-at, row-passes}
 use Rattle.lists.specs.SumLaws.{sum-le}
@@ -21,21 +21,19 @@ use Rattle.rules.specs.declared.Relay.{Relay}
 use Rattle.rules.specs.declared.Tables.{Tables}
 use Rattle.rules.specs.declared.TablesOutcome.{TablesOutcome}
 use Rattle.rules.specs.Limits.{capacityLimit, lastNumber}
-use Rattle.rules.specs.Numbers.{BAD, SPENT, ROOM, NO-RELAY}
+use Rattle.rules.specs.Numbers.{BAD, SPENT, NO-RELAY}
 use Rattle.rules.specs.Fresh.{noRelay, freshEntry, freshRelay}
 use Rattle.rules.specs.Tables.{usedEntry, usedRelay, freeRelay, isRelay, isVolume, relayOf, withRelays, withLastRelay, withBeat}
-use Rattle.rules.specs.Relays.{health, placedOn, sameRelay, holdsShard, bytesOn, shardsOn, shardBytes}
-use Rattle.rules.specs.Outcome.{refused, accepted}
-use Rattle.rules.specs.Sound.{isGiven, relayGiven, soundPlacement, soundIn, soundVolume, soundEntry, soundToken, soundRelay, sameRelayRow}
-use Rattle.rules.specs.SoundParts.{Parts}
+use Rattle.rules.specs.Relays.{health, placedOn, sameRelay, holdsShard, bytesOn, shardsOn}
+use Rattle.rules.specs.Outcome.{refused}
+use Rattle.rules.specs.Sound.{relayGiven, soundPlacement, soundIn, soundVolume, soundEntry, soundToken, soundRelay, sameRelayRow}
 use Rattle.rules.specs.RelayCalls.{newRelay, registerIn, registerRule, heartbeatIn, heartbeatRule}
-use Rattle.rules.specs.Shape.{Shape}
 use Rattle.rules.specs.SetLaws.{all-set}
 use Rattle.rules.specs.BranchLaws.{cond-case}
-use Rattle.rules.specs.NumberLaws.{numbered-used, sameNumber, found-passes, same-number, new-number}
+use Rattle.rules.specs.NumberLaws.{numbered-used, found-passes, same-number, new-number}
 use Rattle.rules.specs.RowFacts.{entry-facts, relay-facts, facts-relay, count-facts, facts-counts}
 use Rattle.rules.specs.RowsKept.{Grown, given-le, le-given, volume-grown, entry-grown, relay-grown, token-stays}
-use Rattle.rules.specs.Invariant.{Invariant, Follows, follows-self}
+use Rattle.rules.specs.Invariant.{Invariant, Follows, follows-self, follows-on, counts-grow}
 
 -- no sound entry has a shard on a relay whose number was not given
 module _ (t : Tables) (n : RelayNo) (new : t .«last_relay» < n .0) where
@@ -75,46 +73,37 @@ module _ (t : Tables) (n : RelayNo) (new : t .«last_relay» < n .0) where
       (λ j k. rw (no-shard (getD (t .entries) j freshEntry) (all-at (soundEntry t) (t .entries) h j k freshEntry)) (omega arith)) in
       omega arith
 
--- the tables with other relays, and the last number of one
-abbrev changed : Tables → List Relay → ℕ → Tables
-changed t rs n = withLastRelay (withRelays t rs) n
-
--- they follow where those relays are sound in them and of different numbers
-module _ (t : Tables) (i : Invariant t) (rs : List Relay) (n : ℕ) (up : t .«last_relay» ≤ n) (end : n ≤ lastNumber) where
-  grows : Grown t (changed t rs n)
-  grows = omega arith
-
-  relays-change : length rs ≡ length (t .relays) → allOf (soundRelay (changed t rs n)) rs ≡ true → noClash sameRelayRow rs ≡ true
-      → Follows t (changed t rs n)
-  relays-change l a c =
-      let u = changed t rs n in
-      let p = i .parts in
-      let f = count-facts t (p .counts) in
-      record {
-        grown = grows;
-        invariant = record {
-          family = i .family;
-          shape = record {
-            volume-rows = i .shape .volume-rows;
-            entry-rows = i .shape .entry-rows;
-            token-rows = i .shape .token-rows;
-            relay-rows = l ∙ i .shape .relay-rows;
-          };
-          parts = record {
-            counts = facts-counts u
-                (record { clock = f .clock; deposits = f .deposits; volumes = f .volumes; tokens = f .tokens; relays = le-leb n lastNumber end });
-            volumes = all-weaker (soundVolume t) (soundVolume u) (t .volumes) (volume-grown t u grows) (p .volumes);
-            volume-numbers = p .volume-numbers;
-            volume-names = p .volume-names;
-            entries = all-weaker (soundEntry t) (soundEntry u) (t .entries) (entry-grown t u grows refl) (p .entries);
-            entry-paths = p .entry-paths;
-            tokens = all-weaker (soundToken t) (soundToken u) (t .tokens) (token-stays t u grows refl refl) (p .tokens);
-            token-numbers = p .token-numbers;
-            relays = a;
-            relay-numbers = c;
-          };
+-- relays change: each is sound, and no two have one number
+relays-change : (t : Tables) (rs : List Relay) → Invariant t → length rs ≡ length (t .relays) → allOf (soundRelay t) rs ≡ true
+    → noClash sameRelayRow rs ≡ true → Follows t (withRelays t rs)
+relays-change t rs i l a c =
+    let u = withRelays t rs in
+    let g : Grown t u = omega arith in
+    let p = i .parts in
+    record {
+      grown = g;
+      invariant = record {
+        family = i .family;
+        shape = record {
+          volume-rows = i .shape .volume-rows;
+          entry-rows = i .shape .entry-rows;
+          token-rows = i .shape .token-rows;
+          relay-rows = l ∙ i .shape .relay-rows;
         };
-      }
+        parts = record {
+          counts = p .counts;
+          volumes = all-weaker (soundVolume t) (soundVolume u) (t .volumes) (volume-grown t u g) (p .volumes);
+          volume-numbers = p .volume-numbers;
+          volume-names = p .volume-names;
+          entries = all-weaker (soundEntry t) (soundEntry u) (t .entries) (entry-grown t u g refl) (p .entries);
+          entry-paths = p .entry-paths;
+          tokens = all-weaker (soundToken t) (soundToken u) (t .tokens) (token-stays t u g refl refl) (p .tokens);
+          token-numbers = p .token-numbers;
+          relays = all-weaker (soundRelay t) (soundRelay u) rs (relay-grown t u g refl refl) a;
+          relay-numbers = c;
+        };
+      };
+    }
 
 -- a relay's number is at most the last one
 relay-le : (t : Tables) (r : Relay) → soundRelay t r ≡ true → r .no .0 ≤ t .«last_relay»
@@ -131,8 +120,16 @@ module _ (t : Tables) (inv : Invariant t) where
     abbrev r : Relay
     r = newRelay n capacity (t .clock)
 
+    -- the number is given first
     abbrev u : Tables
-    u = changed t (set (t .relays) i r) n
+    u = withLastRelay t n
+
+    given-first : Follows t u
+    given-first =
+        let f = count-facts t (inv .parts .counts) in
+        counts-grow t (t .clock) (t .«last_volume») (t .«last_token») n (t .deposits) inv (omega arith)
+        (facts-counts u
+        (record { clock = f .clock; deposits = f .deposits; volumes = f .volumes; tokens = f .tokens; relays = le-leb n lastNumber (omega arith) }))
 
     new-sound : soundRelay u r ≡ true
     new-sound =
@@ -147,13 +144,13 @@ module _ (t : Tables) (inv : Invariant t) where
           held = eq-eqb 0 (sumOf (shardsOn (r .no)) (t .entries)) (sym (no-shards t (r .no) (omega arith) e));
         })
 
-    register-new : Follows t u
+    register-new : Follows t (withRelays u (set (t .relays) i r))
     register-new =
-        let g = grows t inv (set (t .relays) i r) n (omega arith) (omega arith) in
-        relays-change t inv (set (t .relays) i r) n (omega arith) (omega arith) (length-set (t .relays) i r)
-        (all-set (soundRelay u) (t .relays) i r (all-weaker (soundRelay t) (soundRelay u) (t .relays) (relay-grown t u g refl refl) (inv .parts .relays)) new-sound)
+        follows-on given-first
+        (relays-change u (set (t .relays) i r) (given-first .invariant) (length-set (t .relays) i r)
+        (all-set (soundRelay u) (t .relays) i r (given-first .invariant .parts .relays) new-sound)
         (new-number (λ x. x .no .0) (t .relays) i r (inv .parts .relay-numbers)
-        (λ j k. omega (arith, relay-le t (getD (t .relays) j r) (all-at (soundRelay t) (t .relays) (inv .parts .relays) j k r))))
+        (λ j k. omega (arith, relay-le t (getD (t .relays) j r) (all-at (soundRelay t) (t .relays) (inv .parts .relays) j k r)))))
 
   -- a heartbeat of the relay that a search found
   module _ (n : RelayNo) (i : ℕ) (r : Relay) (found : relayOf n t ≡ hit i r) where
@@ -176,11 +173,9 @@ module _ (t : Tables) (inv : Invariant t) where
         })
 
     beat-follows : Follows t (withRelays t (set (t .relays) i beating))
-    unfolding relayOf soundRelay
+    unfolding relayOf
     beat-follows =
-        let rs = set (t .relays) i beating in
-        let f = count-facts t (inv .parts .counts) in
-        relays-change t inv rs (t .«last_relay») (omega arith) (leb-true (t .«last_relay») lastNumber (f .relays)) (length-set (t .relays) i beating)
+        relays-change t (set (t .relays) i beating) inv (length-set (t .relays) i beating)
         (all-set (soundRelay t) (t .relays) i beating (inv .parts .relays) beat-sound)
         (same-number (λ x. x .no .0) (t .relays) i beating freshRelay (ap (λ (x : Relay). x .no .0) (sym (found-at (isRelay n) (t .relays) i r found freshRelay)))
         ∙ inv .parts .relay-numbers)

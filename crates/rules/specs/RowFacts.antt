@@ -1,13 +1,11 @@
 -- Each row test of the desk taken apart into facts, and back. Assumes nothing.
-use mathlib.Core.Path.{_≡_, refl, sym, _∙_}
-use mathlib.Core.Bool.{Bool, true, false, _&&_, _||_, not, true≢false}
-use Prim.Native.Nat.{ℕ, _+_}
-use native.Mathlib.Omega.{arith}
-use borrow.Author.Tests.{ltb-true, ltb-false, ne-eqb, eq-eqb}
-use lib.Dec.{eqb, leb, ltb}
-use Rattle.lists.specs.Lists.{Hit, miss, hit, find, allOf, anyOf, sumOf, noClash}
+use mathlib.Core.Path.{_≡_}
+use mathlib.Core.Bool.{Bool, true, false, _||_, not}
+use lib.Dec.{eqb, leb}
+use Rattle.lists.specs.Lists.{find, allOf, sumOf, noClash}
 use Rattle.lists.specs.BoolLaws.{and-left, and-right, and-both}
-use Rattle.text.specs.Text.{within, isName, isPath, isPrefix, holds}
+use Rattle.rules.specs.ApartLaws.{free-used, used-not-free, other-part, either-part}
+use Rattle.text.specs.Text.{isName, isPath, isPrefix, holds}
 use Rattle.rules.specs.declared.Volume.{Volume}
 use Rattle.rules.specs.declared.Entry.{Entry}
 use Rattle.rules.specs.declared.Token.{Token}
@@ -15,29 +13,14 @@ use Rattle.rules.specs.declared.Relay.{Relay}
 use Rattle.rules.specs.declared.Session.{Session}
 use Rattle.rules.specs.declared.Tables.{Tables}
 use Rattle.rules.specs.Limits.{putRows, sizeLimit, capacityLimit, usedLimit, clockLimit, balanceLimit, depositsLimit, lastNumber, deepest}
-use Rattle.rules.specs.Tables.{given, usedVolume, usedEntry, usedToken, usedRelay, busy, freeVolume, freeEntry, freeToken, freeRelay, isVolume, staged}
+use Rattle.rules.specs.Tables.{usedVolume, usedEntry, usedToken, usedRelay, busy, freeVolume, freeEntry, freeToken, freeRelay, isVolume, staged}
 use Rattle.rules.specs.Scope.{capFits, depth}
 use Rattle.rules.specs.Relays.{bytesOn, shardsOn}
 use Rattle.rules.specs.Sound.{isGiven, soundStatus, shardsFit, soundVolume, soundIn, soundEntry, volumeThere, parentThere, soundToken, soundRelay, soundPut, samePath, soundSession, soundCounts}
 
--- the test of a row that is in use, and of any row whose facts hold
-or-second : (a b : Bool) → a ≡ false → (a || b) ≡ true → b ≡ true
-or-second true b e h = absurd (true≢false e)
-or-second false b e h = h
-
-or-last : (a b : Bool) → b ≡ true → (a || b) ≡ true
-or-last true b e = refl
-or-last false b e = e
-
-used-taken : (n : ℕ) → given n ≡ true → eqb n 0 ≡ false
-used-taken n u = ne-eqb n 0 (λ e. omega (arith, ltb-true 0 n u))
-
-free-taken : (n : ℕ) → given n ≡ false → eqb n 0 ≡ true
-free-taken n u = eq-eqb n 0 (omega (arith, ltb-false 0 n u))
-
-or-first : (a b : Bool) → a ≡ true → (a || b) ≡ true
-or-first true b e = refl
-or-first false b e = absurd (true≢false (sym e))
+-- one test or another, of which the second passes
+pub or-last : (a b : Bool) → b ≡ true → (a || b) ≡ true
+or-last a b e = either-part a b (λ n. e)
 
 pub record VolumeFacts (t : Tables) (v : Volume) : Type 0 where
   pub numbered : isGiven (t .«last_volume») (v .no .0) ≡ true
@@ -50,7 +33,7 @@ pub record VolumeFacts (t : Tables) (v : Volume) : Type 0 where
 module _ (t : Tables) (v : Volume) where
   pub volume-facts : usedVolume v ≡ true → soundVolume t v ≡ true → VolumeFacts t v
   unfolding soundVolume
-  volume-facts u h = let g = or-second (freeVolume v) _ (used-taken (v .no .0) u) h in search (and-left, and-right)
+  volume-facts u h = let g = other-part (freeVolume v) _ (used-not-free (v .no .0) u) h in search (and-left, and-right)
 
   pub facts-volume : VolumeFacts t v → soundVolume t v ≡ true
   unfolding soundVolume
@@ -60,7 +43,7 @@ module _ (t : Tables) (v : Volume) where
 
   pub free-volume : usedVolume v ≡ false → soundVolume t v ≡ true
   unfolding soundVolume
-  free-volume u = or-first (freeVolume v) _ (free-taken (v .no .0) u)
+  free-volume u = rw (free-used (v .no .0), u)
 
 pub record EntryFacts (t : Tables) (e : Entry) : Type 0 where
   pub path : holds isPath (e .path) ≡ true
@@ -70,7 +53,7 @@ pub record EntryFacts (t : Tables) (e : Entry) : Type 0 where
 module _ (t : Tables) (e : Entry) where
   pub entry-facts : usedEntry e ≡ true → soundEntry t e ≡ true → EntryFacts t e
   unfolding soundEntry
-  entry-facts u h = let g = or-second (freeEntry e) _ (used-taken (e .volume .0) u) h in search (and-left, and-right)
+  entry-facts u h = let g = other-part (freeEntry e) _ (used-not-free (e .volume .0) u) h in search (and-left, and-right)
 
   pub facts-entry : EntryFacts t e → soundEntry t e ≡ true
   unfolding soundEntry
@@ -78,7 +61,7 @@ module _ (t : Tables) (e : Entry) where
 
   pub free-entry : usedEntry e ≡ false → soundEntry t e ≡ true
   unfolding soundEntry
-  free-entry u = or-first (freeEntry e) _ (free-taken (e .volume .0) u)
+  free-entry u = rw (free-used (e .volume .0), u)
 
 pub record TokenFacts (t : Tables) (k : Token) : Type 0 where
   pub numbered : isGiven (t .«last_token») (k .no .0) ≡ true
@@ -93,7 +76,7 @@ pub record TokenFacts (t : Tables) (k : Token) : Type 0 where
 module _ (t : Tables) (k : Token) where
   pub token-facts : usedToken k ≡ true → soundToken t k ≡ true → TokenFacts t k
   unfolding soundToken
-  token-facts u h = let g = or-second (freeToken k) _ (used-taken (k .no .0) u) h in search (and-left, and-right) depth 9
+  token-facts u h = let g = other-part (freeToken k) _ (used-not-free (k .no .0) u) h in search (and-left, and-right) depth 9
 
   pub facts-token : TokenFacts t k → soundToken t k ≡ true
   unfolding soundToken
@@ -105,7 +88,7 @@ module _ (t : Tables) (k : Token) where
 
   pub free-token : usedToken k ≡ false → soundToken t k ≡ true
   unfolding soundToken
-  free-token u = or-first (freeToken k) _ (free-taken (k .no .0) u)
+  free-token u = rw (free-used (k .no .0), u)
 
 pub record RelayFacts (t : Tables) (r : Relay) : Type 0 where
   pub numbered : isGiven (t .«last_relay») (r .no .0) ≡ true
@@ -118,7 +101,7 @@ pub record RelayFacts (t : Tables) (r : Relay) : Type 0 where
 module _ (t : Tables) (r : Relay) where
   pub relay-facts : usedRelay r ≡ true → soundRelay t r ≡ true → RelayFacts t r
   unfolding soundRelay
-  relay-facts u h = let g = or-second (freeRelay r) _ (used-taken (r .no .0) u) h in search (and-left, and-right)
+  relay-facts u h = let g = other-part (freeRelay r) _ (used-not-free (r .no .0) u) h in search (and-left, and-right)
 
   pub facts-relay : RelayFacts t r → soundRelay t r ≡ true
   unfolding soundRelay
@@ -128,7 +111,7 @@ module _ (t : Tables) (r : Relay) where
 
   pub free-relay : usedRelay r ≡ false → soundRelay t r ≡ true
   unfolding soundRelay
-  free-relay u = or-first (freeRelay r) _ (free-taken (r .no .0) u)
+  free-relay u = rw (free-used (r .no .0), u)
 
 pub record SessionFacts (t : Tables) (s : Session) : Type 0 where
   pub token : isGiven (t .«last_token») (s .token .0) ≡ true
@@ -140,7 +123,7 @@ pub record SessionFacts (t : Tables) (s : Session) : Type 0 where
 module _ (t : Tables) (s : Session) where
   pub session-facts : busy s ≡ true → soundSession t s ≡ true → SessionFacts t s
   unfolding soundSession
-  session-facts u h = let g = or-second (not (busy s)) _ (rw u) h in search (and-left, and-right)
+  session-facts u h = let g = other-part (not (busy s)) _ (rw u) h in search (and-left, and-right)
 
   pub facts-session : SessionFacts t s → soundSession t s ≡ true
   unfolding soundSession
@@ -148,7 +131,7 @@ module _ (t : Tables) (s : Session) where
 
   pub idle-session : busy s ≡ false → soundSession t s ≡ true
   unfolding soundSession
-  idle-session u = or-first (not (busy s)) _ (rw u)
+  idle-session u = rw u
 
 pub record CountFacts (t : Tables) : Type 0 where
   pub clock : leb (t .clock) clockLimit ≡ true

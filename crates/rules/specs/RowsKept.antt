@@ -1,22 +1,15 @@
 -- What each row test of the desk reads beside the tables: the clock and the numbers that were given. A row stays sound where those grow.
 -- Assumes nothing.
-use mathlib.Core.Path.{_≡_, refl, ap, sym, _∙_}
-use mathlib.Core.Bool.{Bool, true, false, _&&_, _||_, cond, false≢true}
+use mathlib.Core.Path.{_≡_, ap, _∙_}
+use mathlib.Core.Bool.{true}
 use mathlib.Core.Logic.{⊎-elim}
-use mathlib.Core.List.{List, [], _∷_, map}
-use Prim.Native.Nat.{ℕ, _+_, _≤_, _<_}
-use native.Mathlib.Nat.{le-refl}
+use Prim.Native.Nat.{ℕ, _+_, _≤_}
 use native.Mathlib.Omega.{arith}
 use borrow.Author.Tests.{leb-true, le-leb}
 use lib.Dec.{eqb, leb}
-use lib.ListN.{length, getD}
-use Rattle.lists.specs.Lists.{Hit, miss, hit, find, allOf, anyOf, sumOf, noClash}
+use Rattle.lists.specs.Lists.{Hit, miss, hit, find, allOf}
 use Rattle.lists.specs.BoolLaws.{and-left, and-right, and-both, pass-or-fail}
-use Rattle.lists.specs.TestLaws.{all-at, all-weaker}
-use Rattle.lists.specs.RowLaws.{map-agree, sum-same}
-use Rattle.text.specs.Text.{within}
-use Rattle.rules.specs.declared.VolumeNo.{VolumeNo}
-use Rattle.rules.specs.declared.RelayNo.{RelayNo}
+use Rattle.lists.specs.TestLaws.{all-weaker}
 use Rattle.rules.specs.declared.Placement.{Placement}
 use Rattle.rules.specs.declared.Status.{Status}
 use Rattle.rules.specs.declared.Status.the-variants.{Active, Grace, Deleted}
@@ -26,12 +19,11 @@ use Rattle.rules.specs.declared.Token.{Token}
 use Rattle.rules.specs.declared.Relay.{Relay}
 use Rattle.rules.specs.declared.Session.{Session}
 use Rattle.rules.specs.declared.Tables.{Tables}
-use Rattle.rules.specs.Fresh.{freshEntry}
 use Rattle.rules.specs.Tables.{usedVolume, usedEntry, usedToken, usedRelay, busy, isVolume}
 use Rattle.rules.specs.Scope.{depth}
-use Rattle.rules.specs.Relays.{placedOn, sameRelay, shardSize, holdsShard, shardBytes, bytesOn, shardsOn}
+use Rattle.rules.specs.Relays.{placedOn}
 use Rattle.rules.specs.Sound.{isGiven, soundStatus, soundVolume, relayGiven, soundPlacement, soundIn, soundEntry, volumeThere, parentThere, soundToken, soundRelay, soundSession}
-use Rattle.rules.specs.RowFacts.{VolumeFacts, volume-facts, facts-volume, free-volume, EntryFacts, entry-facts, facts-entry, free-entry, TokenFacts, token-facts, facts-token, free-token, RelayFacts, relay-facts, facts-relay, free-relay, SessionFacts, session-facts, facts-session, idle-session}
+use Rattle.rules.specs.RowFacts.{volume-facts, facts-volume, free-volume, entry-facts, facts-entry, free-entry, token-facts, facts-token, free-token, relay-facts, facts-relay, free-relay, session-facts, facts-session, idle-session}
 
 -- the clock does not go back, and no number that was given is taken back
 pub record Grown (t u : Tables) : Type 0 where

@@ -1,14 +1,14 @@
 -- Laws of a table with one row stored: what tests, searches and clashes say after it, for any kind of row. Assumes nothing.
-use mathlib.Core.Path.{_≡_, refl, ap, sym, _∙_}
-use mathlib.Core.Bool.{Bool, true, false, cond}
-use mathlib.Core.List.{List, [], _∷_, map}
+use mathlib.Core.Path.{_≡_, refl}
+use mathlib.Core.Bool.{Bool, true, false, not}
+use mathlib.Core.List.{List, [], _∷_, _++_}
 use Prim.Native.Nat.{ℕ, zero, suc, _<_}
-use native.Mathlib.Nat.{le-of-suc-le-suc, not-suc-le-zero}
 use native.Mathlib.Omega.{arith}
+use borrow.Author.Tests.{not-true}
 use lib.ListN.{length, getD, set}
-use lib.Seq.{map-set-same}
-use Rattle.lists.specs.Lists.{Hit, miss, hit, firstRow, find, allOf, anyOf, noClash, modify}
-use Rattle.lists.specs.BoolLaws.{and-left, and-right, and-both}
+use Rattle.lists.specs.Lists.{firstRow, allOf, anyOf, noClash}
+use Rattle.lists.specs.BoolLaws.{and-left, and-right, or-left, or-right}
+use Rattle.lists.specs.TestLaws.{any-append}
 use Rattle.lists.specs.ModifyLaws.{row-set, all-modify, clash-modify}
 
 module _ {A : Type 0} where
@@ -31,3 +31,13 @@ module _ {A : Type 0} where
   find-set p [] k i y d e f = refl
   find-set p (x ∷ xs) k zero y d e f = rw (e, f)
   find-set p (x ∷ xs) k (suc i) y d e f = rw (find-set p xs (suc k) i y d e f)
+
+  -- one row more at the end: it clashes with none before it, where q tells which rows it clashes with
+  pub clash-last : (c : A → A → Bool) (q : A → Bool) (l : List A) (y : A) → ((x : A) → c x y ≡ q x) → anyOf q l ≡ false → noClash c l ≡ true
+      → noClash c (l ++ (y ∷ [])) ≡ true
+  unfolding anyOf noClash
+  clash-last c q [] y f g e = refl
+  clash-last c q (x ∷ xs) y f g e =
+      let n = not-true (anyOf (c x) xs) (and-left (not (anyOf (c x) xs)) (noClash c xs) e) in
+      rw (any-append (c x) xs (y ∷ []), n, f x, or-left (q x) (anyOf q xs) g)
+      (clash-last c q xs y f (or-right (q x) (anyOf q xs) g) (and-right (not (anyOf (c x) xs)) (noClash c xs) e))
