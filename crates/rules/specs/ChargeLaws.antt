@@ -15,6 +15,7 @@ use Rattle.lists.specs.SearchLaws.{found-below, found-at, miss-hit}
 use Rattle.lists.specs.TestLaws.{all-at, none-at, any-at, all-weaker}
 use Rattle.lists.specs.RowLaws.{clash-map}
 use Rattle.rules.specs.declared.TokenNo.{TokenNo}
+use Rattle.rules.specs.declared.VolumeNo.{VolumeNo}
 use Rattle.rules.specs.declared.Token.{Token}
 use Rattle.rules.specs.declared.Tables.{Tables}
 use Rattle.rules.specs.Limits.{usedLimit, deepest}
@@ -135,7 +136,11 @@ module _ (g : Token → Token) (keeps : (k : Token) → withUsed (g k) 0 ≡ wit
       let q : getD (map g (t .tokens)) j freshToken ≡ g x = map-at g (t .tokens) j freshToken freshToken c in
       let u : usedToken x ≡ true = rw (q, keeps-no g keeps x) at w in
       let p = hit-kept (find (isToken (x .parent)) (t .tokens)) i k (sym (found-kept g keeps (t .tokens) (x .parent)) ∙ rw (q, keeps-parent g keeps x) at e) in
-      rw q (ap (λ (y : Token). y .volume) (sym (p .2)) ∙ keeps-volume g keeps (p .0) ∙ f j c u i (p .0) (p .1) ∙ sym (keeps-volume g keeps x))
+      rw q
+      (ap (λ (y : Token). y .volume .0) (sym (p .2))
+      ∙ ap (λ (n : VolumeNo). n .0) (keeps-volume g keeps (p .0))
+      ∙ f j c u i (p .0) (p .1)
+      ∙ ap (λ (n : VolumeNo). n .0) (sym (keeps-volume g keeps x)))
 
 -- a commit charges the token and its ancestors
 charged-keeps : (ks : List Token) (bytes : ℕ) (k : Token) → withUsed (charged ks bytes k) 0 ≡ withUsed k 0

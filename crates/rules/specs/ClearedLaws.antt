@@ -16,6 +16,19 @@ use Rattle.rules.specs.MappedLaws.{clash-mapped}
 abbrev pub orFresh : {A : Type 0} → (A → Bool) → A → A → A
 orFresh p z x = cond (p x) z x
 
+-- what went is among the rows that were kept of it
+module _ {A : Type 0} (p : A → Bool) where
+  keep-cond : (q : A → Bool) (b : Bool) (x : A) (l : List A) → anyOf q (cond b (x ∷ l) l) ≡ false → (b ≡ true → q x ≡ false) × (anyOf q l ≡ false)
+  unfolding anyOf
+  keep-cond q true x l e = (λ t. or-left (q x) (anyOf q l) e, or-right (q x) (anyOf q l) e)
+  keep-cond q false x l e = (λ t. absurd (false≢true t), e)
+
+  pub none-kept : (q : A → Bool) (l : List A) (j : ℕ) (d : A) → anyOf q (keep p l) ≡ false → j < length l → p (getD l j d) ≡ true → q (getD l j d) ≡ false
+  unfolding keep
+  none-kept q [] j d e h t = absurd (not-suc-le-zero h)
+  none-kept q (x ∷ xs) zero d e h t = keep-cond q (p x) x (keep p xs) e .0 t
+  none-kept q (x ∷ xs) (suc j) d e h t = none-kept q xs j d (keep-cond q (p x) x (keep p xs) e .1) (le-of-suc-le-suc h) t
+
 module _ {A : Type 0} (p : A → Bool) (z : A) where
   -- every row is changed by one function
   pub cleared-map : (l : List A) → cleared p z l ≡ map (orFresh p z) l
@@ -100,18 +113,6 @@ module _ {A : Type 0} (p : A → Bool) (z : A) where
   pub miss-cleared : (q : A → Bool) (k : ℕ) (l : List A) → q z ≡ false → firstRow q k l ≡ miss → firstRow q k (cleared p z l) ≡ miss
   miss-cleared q k l f e =
       find-cleared q k l z f (λ j h t. miss-at q l k e j h z) ∙ e
-
-  -- what went is among the rows that were kept of it
-  keep-cond : (q : A → Bool) (b : Bool) (x : A) (l : List A) → anyOf q (cond b (x ∷ l) l) ≡ false → (b ≡ true → q x ≡ false) × (anyOf q l ≡ false)
-  unfolding anyOf
-  keep-cond q true x l e = (λ t. or-left (q x) (anyOf q l) e, or-right (q x) (anyOf q l) e)
-  keep-cond q false x l e = (λ t. absurd (false≢true t), e)
-
-  pub none-kept : (q : A → Bool) (l : List A) (j : ℕ) (d : A) → anyOf q (keep p l) ≡ false → j < length l → p (getD l j d) ≡ true → q (getD l j d) ≡ false
-  unfolding keep
-  none-kept q [] j d e h t = absurd (not-suc-le-zero h)
-  none-kept q (x ∷ xs) zero d e h t = keep-cond q (p x) x (keep p xs) e .0 t
-  none-kept q (x ∷ xs) (suc j) d e h t = none-kept q xs j d (keep-cond q (p x) x (keep p xs) e .1) (le-of-suc-le-suc h) t
 
   -- a sum: what stays and what went are the whole
   sum-orFresh : (f : A → ℕ) (b : Bool) (x : A) (l : List A) → f z ≡ 0 → f (cond b z x) + sumOf f (cond b (x ∷ l) l) ≡ f x + sumOf f l

@@ -30,7 +30,6 @@ pub mod Invariant
 pub mod RelaySound
 pub mod RoomLaws
 pub mod TokensGo
-pub mod OutcomeCases
 pub mod RemoveSound
 pub mod HeldText
 pub mod TokensFollow
@@ -38,6 +37,9 @@ pub mod VolumeSound
 pub mod ChainLaws
 pub mod TokenSound
 pub mod SessionSound
+pub mod StaysSound
+pub mod FreshSound
+pub mod OneVolumeNeeded
 pub mod TakeLaws
 pub mod ApartLaws
 pub mod PlaceLaws
@@ -50,3 +52,11 @@ pub mod ChargeLaws
 pub mod StoredSound
 pub mod CommitCases
 pub mod CommitSound
+pub mod CollectSound
+pub mod SettleSound
+pub mod AdvanceSound
+pub mod Coins
+pub mod LiveLaws
+pub mod AdvanceCoins
+pub mod CoinlessCalls
+pub mod CoinLaws

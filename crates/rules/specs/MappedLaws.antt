@@ -2,7 +2,8 @@
 use mathlib.Core.Path.{_≡_, refl, ap, sym, _∙_}
 use mathlib.Core.Bool.{Bool, true, false, _||_, cond, not}
 use mathlib.Core.List.{List, [], _∷_, map}
-use Prim.Native.Nat.{ℕ, suc, _<_}
+use Prim.Native.Nat.{ℕ, zero, suc, _<_}
+use native.Mathlib.Nat.{le-of-suc-le-suc, not-suc-le-zero}
 use native.Mathlib.Omega.{arith}
 use borrow.Author.Tests.{not-true}
 use lib.ListN.{length, getD}
@@ -39,6 +40,12 @@ found-any f p l m e =
     any-hit p 0 l ∙ sym (hit-mapped f (find p l)) ∙ ap isHit e ∙ hit-mapped f (find p m) ∙ sym (any-hit p 0 m)
 
 module _ {A B : Type 0} (f : A → B) where
+  -- the row at an index
+  pub mapped-at : (l : List A) (j : ℕ) (d : A) (e : B) → j < length l → getD (map f l) j e ≡ f (getD l j d)
+  mapped-at [] j d e h = absurd (not-suc-le-zero h)
+  mapped-at (x ∷ xs) zero d e h = refl
+  mapped-at (x ∷ xs) (suc j) d e h = mapped-at xs j d e (le-of-suc-le-suc h)
+
   -- every row passes
   pub all-mapped : (p : A → Bool) (q : B → Bool) (l : List A) (d : A)
       → ((j : ℕ) → j < length l → p (getD l j d) ≡ true → q (f (getD l j d)) ≡ true) → allOf p l ≡ true → allOf q (map f l) ≡ true

@@ -3,6 +3,7 @@ use mathlib.Core.Path.{_≡_, refl, sym, _∙_}
 use mathlib.Core.Bool.{Bool, true, false, cond, not}
 use mathlib.Core.List.{List, map}
 use Prim.Native.Nat.{ℕ, _+_}
+use native.Mathlib.Omega.{arith}
 use lib.Dec.{leb}
 use lib.ListN.{length, set, getD, length-set, length-map}
 use lib.Seq.{map-set-same}
@@ -29,8 +30,8 @@ use Rattle.rules.specs.RestParts.{Rest, rest-of, with-volumes}
 use Rattle.rules.specs.ClearedLaws.{length-cleared}
 use Rattle.rules.specs.LastingLaws.{lasting, lasting-change}
 use Rattle.rules.specs.RoomLaws.{drop-rest}
-use Rattle.rules.specs.Family.{FamilyInOneVolume}
-use Rattle.rules.specs.OutcomeCases.{either}
+use Rattle.rules.specs.BranchLaws.{cond-case}
+use Rattle.rules.specs.Invariant.{Invariant, Follows, follows-self}
 
 -- the tables after an accepted remove from the volume v in row i
 abbrev pub removed : Tables → List ℕ → ℕ → Volume → Tables
@@ -44,20 +45,20 @@ module _ (P : Tables → Type 0) (a : Account) (n : VolumeNo) (path : List ℕ) 
   unfolding removeEntry
   entry-case i v e miss = before
   entry-case i v e (hit j x) =
-      either P (leb lastVersion (v .version)) (refused t SPENT) (accepted (v .version + 1) (removed t path i v)) (λ b. before) (λ b. after i v e)
+      cond-case (λ o. P (o .tables)) (leb lastVersion (v .version)) (refused t SPENT) (accepted (v .version + 1) (removed t path i v)) (λ b. before) (λ b. after i v e)
 
   volume-case : (h : Hit Volume) → find (isVolume n) (t .volumes) ≡ h → P (removeIn t a path h .tables)
   unfolding removeIn
   volume-case miss e = before
   volume-case (hit i v) e =
       let last = removeEntry t path i v (entryOf (v .no) path t) in
-      either P (not (ownedBy a v)) (refused t NOT-OWNER) (cond (not (isOpen (v .status))) (refused t STATE) last) (λ b. before)
-      (λ b. either P (not (isOpen (v .status))) (refused t STATE) last (λ c. before) (λ c. entry-case i v e (entryOf (v .no) path t)))
+      cond-case (λ o. P (o .tables)) (not (ownedBy a v)) (refused t NOT-OWNER) (cond (not (isOpen (v .status))) (refused t STATE) last) (λ b. before)
+      (λ b. cond-case (λ o. P (o .tables)) (not (isOpen (v .status))) (refused t STATE) last (λ c. before) (λ c. entry-case i v e (entryOf (v .no) path t)))
 
   pub remove-cases : P (removeRule a n path t .tables)
   unfolding removeRule volumeOf
   remove-cases =
-      either P (not (isPath path)) (refused t BAD) (removeIn t a path (volumeOf n t)) (λ b. before)
+      cond-case (λ o. P (o .tables)) (not (isPath path)) (refused t BAD) (removeIn t a path (volumeOf n t)) (λ b. before)
       (λ b. volume-case (find (isVolume n) (t .volumes)) refl)
 
 module _ (n : VolumeNo) (path : List ℕ) (t : Tables) (i : ℕ) (v : Volume) (e : find (isVolume n) (t .volumes) ≡ hit i v) where
@@ -68,9 +69,9 @@ module _ (n : VolumeNo) (path : List ℕ) (t : Tables) (i : ℕ) (v : Volume) (e
       map-set-same f (t .volumes) i (withVersion v (v .version + 1)) freshVolume
       (rw (found-at (isVolume n) (t .volumes) i v e freshVolume) q)
 
-  removed-sound : Parts t → Parts (removed t path i v)
+  removed-parts : Parts t → Parts (removed t path i v)
   unfolding dropEntries soundVolume
-  removed-sound p =
+  removed-parts p =
       with-volumes
       (all-same (soundVolume t) (soundVolume t) (set (t .volumes) i (withVersion v (v .version + 1))) (t .volumes) (same-as (soundVolume t) refl)
       ∙ p .volumes)
@@ -86,16 +87,12 @@ module _ (n : VolumeNo) (path : List ℕ) (t : Tables) (i : ℕ) (v : Volume) (e
     relay-rows = length-map (t .relays) (lightened (t .volumes) (keep (isEntry (v .no) path) (t .entries))) ∙ s .relay-rows;
   }
 
-  removed-family : FamilyInOneVolume t → FamilyInOneVolume (removed t path i v)
+  removed-follows : Invariant t → Follows t (removed t path i v)
   unfolding dropEntries
-  removed-family f = f
+  removed-follows s = record {
+    invariant = record { parts = removed-parts (s .parts); shape = removed-shape (s .shape); family = s .family };
+    grown = omega arith;
+  }
 
-module _ (a : Account) (n : VolumeNo) (path : List ℕ) (t : Tables) where
-  pub remove-sound : Parts t → Parts (removeRule a n path t .tables)
-  remove-sound p = remove-cases Parts a n path t p (λ i v e. removed-sound n path t i v e p)
-
-  pub remove-shape : Shape t → Shape (removeRule a n path t .tables)
-  remove-shape s = remove-cases Shape a n path t s (λ i v e. removed-shape n path t i v e s)
-
-  pub remove-family : FamilyInOneVolume t → FamilyInOneVolume (removeRule a n path t .tables)
-  remove-family f = remove-cases FamilyInOneVolume a n path t f (λ i v e. removed-family n path t i v e f)
+pub remove-follows : (a : Account) (n : VolumeNo) (path : List ℕ) (t : Tables) → Invariant t → Follows t (removeRule a n path t .tables)
+remove-follows a n path t s = remove-cases (Follows t) a n path t (follows-self s) (λ i v e. removed-follows n path t i v e s)

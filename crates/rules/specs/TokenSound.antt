@@ -119,19 +119,19 @@ module _ (t : Tables) (inv : Invariant t) (room : t .«last_token» < lastNumber
             h
 
     -- families stay in one volume
-    one-volume : ((j : ℕ) (p : Token) → find (isToken (k .parent)) (t .tokens) ≡ hit j p → p .volume ≡ k .volume) → FamilyInOneVolume w
+    one-volume : ((j : ℕ) (p : Token) → find (isToken (k .parent)) (t .tokens) ≡ hit j p → p .volume .0 ≡ k .volume .0) → FamilyInOneVolume w
     one-volume q j b v m p e = ⊎-elim new other (pass-or-fail (eqb j i))
       where
         inside : j < length (t .tokens)
         inside = rw (length-set (t .tokens) i k) at b
 
-        new : eqb j i ≡ true → p .volume ≡ getD ks j freshToken .volume
+        new : eqb j i ≡ true → p .volume .0 ≡ getD ks j freshToken .volume .0
         new s =
             let z : j ≡ i = eqb-true j i s in
             let r : getD ks j freshToken ≡ k = rw z (getD-set-same (t .tokens) i k freshToken (rw z at inside)) in
             rw r (q m p (sym (found-same (k .parent) above) ∙ rw r at e))
 
-        other : eqb j i ≡ false → p .volume ≡ getD ks j freshToken .volume
+        other : eqb j i ≡ false → p .volume .0 ≡ getD ks j freshToken .volume .0
         other s =
             let x = getD (t .tokens) j freshToken in
             let r : getD ks j freshToken ≡ x = getD-set-other (t .tokens) i j k freshToken (eqb-false j i s) in
@@ -150,7 +150,7 @@ module _ (t : Tables) (inv : Invariant t) (room : t .«last_token» < lastNumber
 -- what a new token needs of its parent: there is one and it is of the volume, or there is none; and the chain is not too long
 record ParentFits (t : Tables) (v : VolumeNo) (parent : TokenNo) : Type 0 where
   there : (eqb (parent .0) 0 || anyOf (isToken parent) (t .tokens)) ≡ true
-  volume : (j : ℕ) (p : Token) → find (isToken parent) (t .tokens) ≡ hit j p → p .volume ≡ v
+  volume : (j : ℕ) (p : Token) → find (isToken parent) (t .tokens) ≡ hit j p → p .volume .0 ≡ v .0
   short : length (onHit [] (chain deepest (t .tokens)) (find (isToken parent) (t .tokens))) < deepest
 
 module _ (t : Tables) (inv : Invariant t) (v : VolumeNo) (parent : TokenNo) (a : ScopeArg) (fits : scopeFits a ≡ true)
@@ -212,7 +212,7 @@ child-fits t m i p e d =
     let f : find (isToken (p .no)) (t .tokens) ≡ hit i p = ap (λ x. find (isToken x) (t .tokens)) q ∙ e in
     record {
       there = or-last (eqb (p .no .0) 0) (anyOf (isToken (p .no)) (t .tokens)) (found-some (isToken (p .no)) (t .tokens) i p f);
-      volume = λ j x g. let s : x ≡ p = cc in ap (λ (y : Token). y .volume) s;
+      volume = λ j x g. let s : x ≡ p = cc in ap (λ (y : Token). y .volume .0) s;
       short = rw f (omega (arith, chain-longer (t .tokens) deepest p, leb-false deepest (depth (t .tokens) p) d));
     }
 

@@ -4,7 +4,6 @@ use mathlib.Core.Bool.{Bool, true, false, _&&_, _||_, cond, true≢false}
 use mathlib.Core.Logic.{⊎-elim}
 use mathlib.Core.List.{List, [], _∷_}
 use Prim.Native.Nat.{ℕ, zero, suc, _<_}
-use borrow.Author.Tests.{eqb-true}
 use lib.Dec.{eqb, leb}
 use lib.ListN.{length, getD}
 use Rattle.lists.specs.Lists.{Hit, miss, hit, find, anyOf}
@@ -20,6 +19,7 @@ use Rattle.rules.specs.Tables.{given, numbered, usedToken, isToken, with
 use Rattle.rules.specs.Scope.{onHit, chain, depth}
 use Rattle.rules.specs.Sound.{soundEntry, soundToken, soundRelay, parentThere, volumeThere, sameToken}
 use Rattle.rules.specs.RowFacts.{TokenFacts, token-facts, facts-token, free-token}
+use Rattle.rules.specs.NumberLaws.{numbered-used}
 use Rattle.rules.specs.RestParts.{Rest}
 use Rattle.rules.specs.MappedLaws.{mapHit, found-any}
 use Rattle.rules.specs.ClearedLaws.{all-cleared, clash-cleared, found-cleared, miss-cleared, length-cleared, cleared-at}
@@ -29,9 +29,7 @@ use Rattle.rules.specs.Family.{FamilyInOneVolume}
 
 -- a token found by its number is in use
 pub found-used : (n : TokenNo) (ks : List Token) (i : ℕ) (k : Token) → find (isToken n) ks ≡ hit i k → usedToken k ≡ true
-found-used n ks i k e =
-    let q = row-passes (isToken n) ks 0 i k e in
-    rw (eqb-true (k .no .0) (n .0) (and-right (given (n .0)) (eqb (k .no .0) (n .0)) q)) (and-left (given (n .0)) (eqb (k .no .0) (n .0)) q)
+found-used n ks i k e = numbered-used (n .0) (k .no .0) (row-passes (isToken n) ks 0 i k e)
 
 -- the parent of each token that stays, stays
 abbrev pub ParentsStay : (Token → Bool) → List Token → Type 0
@@ -120,7 +118,7 @@ module _ (gone : Token → Bool) (t : Tables) (stay : ParentsStay gone (t .token
   -- and families stay in one volume
   family-row : (c : Bool) (j : ℕ) → j < length (t .tokens) → gone (getD (t .tokens) j freshToken) ≡ c → FamilyInOneVolume t
       → (r : Token) → r ≡ cond c freshToken (getD (t .tokens) j freshToken) → usedToken r ≡ true → (i : ℕ) (k : Token)
-      → find (isToken (r .parent)) (cleared gone freshToken (t .tokens)) ≡ hit i k → k .volume ≡ r .volume
+      → find (isToken (r .parent)) (cleared gone freshToken (t .tokens)) ≡ hit i k → k .volume .0 ≡ r .volume .0
   family-row true j b g f r q w i k e = absurd (true≢false (sym (rw q at w)))
   family-row false j b g f r q w i k e =
       let v : usedToken (getD (t .tokens) j freshToken) ≡ true = rw q at w in

@@ -145,7 +145,7 @@ module _ (t : Tables) (inv : Invariant t) (n : VolumeNo) (i : ℕ) (v : Volume) 
       let row = getD (t .tokens) j freshToken in
       not-pass (isTokenOf (v .no) k)
       (λ h.
-      let q : k .volume ≡ row .volume = inv .family j b w i k e in
+      let q : k .volume .0 ≡ row .volume .0 = inv .family j b w i k e in
       let m : numbered (v .no .0) (row .volume .0) ≡ true = rw q at (and-right (usedToken k) (numbered (v .no .0) (k .volume .0)) h) in
       not-both (and-both w m) g)
 
