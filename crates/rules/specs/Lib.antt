@@ -60,3 +60,4 @@ pub mod LiveLaws
 pub mod AdvanceCoins
 pub mod CoinlessCalls
 pub mod CoinLaws
+pub mod Reached
