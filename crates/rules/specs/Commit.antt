@@ -5,7 +5,7 @@ use Prim.Native.Nat.{ℕ, _+_}
 use lib.Dec.{eqb, leb, ltb}
 use lib.ListN.{set}
 use Rattle.lists.specs.Lists.{Hit, miss, hit, find, anyOf, countIf, keep, sumOf, total}
-use Rattle.text.specs.Text.{textBytes}
+use Rattle.text.specs.Text.{textBytes, toText}
 use Rattle.rules.specs.declared.VolumeNo.{VolumeNo}
 use Rattle.rules.specs.declared.Placement.{Placement}
 use Rattle.rules.specs.declared.Volume.{Volume}
@@ -84,9 +84,9 @@ placeAll clock k m (p ∷ ps) rs =
     cond (tooFew clock bytes (k + m) rs) noPlace
     (andPlaced place (placeAll clock k m ps (map (loaded bytes place) rs)))
 
--- the entry of a put
+-- the entry of a put; its text is written anew, padded with zeros
 abbrev pub entryFor : VolumeNo → Put → Placement → Entry
-entryFor n p place = record { volume = n; path = p .path; size = p .size; hash = p .hash; placement = place }
+entryFor n p place = record { volume = n; path = toText (textBytes (p .path)); size = p .size; hash = p .hash; placement = place }
 
 -- the lowest free row takes a new entry
 unfoldable pub storeNew : List Entry → Entry → Hit Entry → List Entry

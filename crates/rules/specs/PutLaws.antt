@@ -2,7 +2,7 @@
 use mathlib.Core.Path.{_≡_, refl, ap, sym, _∙_, fun-ext}
 use mathlib.Core.Bool.{Bool, true, _&&_}
 use mathlib.Core.List.{List, [], _∷_, map}
-use Prim.Native.Nat.{_+_, _≤_}
+use Prim.Native.Nat.{ℕ, _+_, _≤_}
 use lib.ListN.{length, List·getD-map}
 use borrow.Author.Tests.{eq-eqb}
 use Rattle.lists.specs.Lists.{find, allOf, countIf, noClash}
@@ -12,6 +12,7 @@ use Rattle.lists.specs.TestLaws.{at-all}
 use Rattle.lists.specs.RowLaws.{map-after, count-same, clash-map}
 use Rattle.lists.specs.ByteLaws.{same-symmetric}
 use Rattle.text.specs.Text.{textBytes}
+use Rattle.text.specs.TextLaws.{text-bytes}
 use Rattle.rules.specs.declared.VolumeNo.{VolumeNo}
 use Rattle.rules.specs.declared.Entry.{Entry}
 use Rattle.rules.specs.Fresh.{freshPut, freshPlacement}
@@ -27,7 +28,9 @@ module _ (n : VolumeNo) where
   path-test : (z : Staged) → isEntry n (textBytes (z .0 .path)) ≡ sameEntry (entryIn n z)
   unfolding isEntry sameEntry
   path-test z =
-      fun-ext (λ x. ap (λ (b : Bool). numbered (n .0) (x .volume .0) && b) (same-symmetric (textBytes (x .path)) (textBytes (z .0 .path))))
+      let path = textBytes (z .0 .path) in
+      fun-ext
+      (λ x. ap (λ (b : Bool). numbered (n .0) (x .volume .0) && b) (same-symmetric (textBytes (x .path)) path ∙ ap (λ (l : List ℕ). sameBytes l (textBytes (x .path))) (sym (text-bytes path))))
 
   pub store-all : (zs : List Staged) (es : List Entry) → storeAll n (map putIn zs) (map placeIn zs) es ≡ stored (map (entryIn n) zs) es
   unfolding storeAll stored storeOne
@@ -42,7 +45,7 @@ module _ (n : VolumeNo) where
       let p : Staged → Bool = λ z. sameBytes (textBytes (z .0 .path)) path in
       ap (λ (b : Bool). inVolume n x && b) (any-map putIn (isPut path) p zs (λ z. refl))
       ∙ sym (any-and (inVolume n x) p zs)
-      ∙ sym (any-map (entryIn n) (λ e. sameEntry e x) (λ z. inVolume n x && p z) zs (λ z. refl))
+      ∙ sym (any-map (entryIn n) (λ e. sameEntry e x) (λ z. inVolume n x && p z) zs (λ z. rw (text-bytes (textBytes (z .0 .path)))))
 
   pub replaced-same : (zs : List Staged) → isReplaced n (map putIn zs) ≡ replacedBy (map (entryIn n) zs)
   replaced-same zs = fun-ext (replaced-row zs)
@@ -60,7 +63,7 @@ module _ (n : VolumeNo) where
     new-apart e =
         let c : Staged → Staged → Bool = λ x y. samePath (x .0) (y .0) in
         let one : numbered (n .0) (n .0) ≡ true = and-both g (eq-eqb (n .0) (n .0) refl) in
-        sym (clash-map c sameEntry (entryIn n) zs (λ x y. ap (λ (b : Bool). b && c x y) (sym one))) ∙ clash-map c samePath putIn zs (λ x y. refl) ∙ e
+        sym (clash-map c sameEntry (entryIn n) zs (λ x y. rw (text-bytes (textBytes (x .0 .path)), text-bytes (textBytes (y .0 .path))) (ap (λ (b : Bool). b && c x y) (sym one)))) ∙ clash-map c samePath putIn zs (λ x y. refl) ∙ e
 
     new-used : allOf usedEntry (map (entryIn n) zs) ≡ true
     new-used = at-all usedEntry (map (entryIn n) zs) (entryIn n (freshPut, freshPlacement)) (λ j h. rw (List·getD-map (entryIn n) zs j (freshPut, freshPlacement)) g)

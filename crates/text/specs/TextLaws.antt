@@ -58,12 +58,12 @@ text-filled s n b e f =
     λ i. record { bytes = (f ∙ ap (padded pathLimit) q) i; len = l i }
 
 -- a text holds what it was made of
-pub text-bytes : (s : List ℕ) → length s ≤ pathLimit → textBytes (toText s) ≡ s
-text-bytes s h = take-at s (replicate (pathLimit - length s) 0) (length s) refl
+pub text-bytes : (s : List ℕ) → textBytes (toText s) ≡ s
+text-bytes s = take-at s (replicate (pathLimit - length s) 0) (length s) refl
 
 -- a text that was made of some bytes holds what they are
 pub text-holds : (p : List ℕ → Bool) (s : List ℕ) → length s ≤ pathLimit → holds p (toText s) ≡ p s
-text-holds p s h = rw (le-leb (length s) pathLimit h, text-bytes s h)
+text-holds p s h = rw (le-leb (length s) pathLimit h, text-bytes s)
 
 -- the bytes of a path, a prefix or a name fit a text
 pub path-fits : (s : List ℕ) → isPath s ≡ true → length s ≤ pathLimit
