@@ -32,7 +32,7 @@ pub mod RoomLaws
 pub mod TokensGo
 pub mod RemoveSound
 pub mod HeldText
-pub mod TokensFollow
+pub mod TokensChange
 pub mod VolumeSound
 pub mod ChainLaws
 pub mod TokenSound

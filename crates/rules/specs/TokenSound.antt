@@ -38,11 +38,11 @@ use Rattle.rules.specs.BranchLaws.{cond-case}
 use Rattle.rules.specs.NumberLaws.{numbered-used, numbered-eq, numbered-other, found-passes, found-some, new-number}
 use Rattle.rules.specs.RowFacts.{or-last, token-facts, facts-token, count-facts, facts-counts}
 use Rattle.rules.specs.RowsKept.{given-le, le-given, token-grown}
-use Rattle.rules.specs.Invariant.{Invariant, Follows, follows-self, follows-on, counts-grow}
+use Rattle.rules.specs.Invariant.{Whole, Keeps, keeps-self, keeps-on, counts-grow}
 use Rattle.rules.specs.ChainLaws.{chain-same, chain-longer, chain-ended, chain-parent}
 use Rattle.rules.specs.Family.{FamilyInOneVolume}
 use Rattle.rules.specs.TokensGo.{ParentsStay}
-use Rattle.rules.specs.TokensFollow.{tokens-change, tokens-leave}
+use Rattle.rules.specs.TokensChange.{tokens-change, tokens-leave}
 use Rattle.rules.specs.HeldText.{prefix-held}
 
 -- a token's number is at most the last one, and so is its parent's
@@ -67,7 +67,7 @@ unfolding parentThere
 parent-le t a k u h = there-le t a (k .parent) (token-facts t k u h .parent)
 
 -- a new token, in the place of a free row
-module _ (t : Tables) (inv : Invariant t) (room : t .«last_token» < lastNumber)
+module _ (t : Tables) (inv : Whole t) (room : t .«last_token» < lastNumber)
     (i : ℕ) (old : Token) (found : find freeToken (t .tokens) ≡ hit i old) where
   abbrev n : ℕ
   n = t .«last_token» + 1
@@ -76,7 +76,7 @@ module _ (t : Tables) (inv : Invariant t) (room : t .«last_token» < lastNumber
   abbrev u : Tables
   u = withLastToken t n
 
-  given-first : Follows t u
+  given-first : Keeps t u
   given-first =
       let f = count-facts t (inv .parts .counts) in
       counts-grow t (t .clock) (t .«last_volume») n (t .«last_relay») (t .deposits) inv (omega arith)
@@ -119,8 +119,8 @@ module _ (t : Tables) (inv : Invariant t) (room : t .«last_token» < lastNumber
             h
 
     -- families stay in one volume
-    one-volume : ((j : ℕ) (p : Token) → find (isToken (k .parent)) (t .tokens) ≡ hit j p → p .volume .0 ≡ k .volume .0) → FamilyInOneVolume w
-    one-volume q j b v m p e = ⊎-elim new other (pass-or-fail (eqb j i))
+    one-volume : ((j : ℕ) (p : Token) → find (isToken (k .parent)) (t .tokens) ≡ hit j p → p .volume .0 ≡ k .volume .0) → FamilyInOneVolume t → FamilyInOneVolume w
+    one-volume q kin j b v m p e = ⊎-elim new other (pass-or-fail (eqb j i))
       where
         inside : j < length (t .tokens)
         inside = rw (length-set (t .tokens) i k) at b
@@ -137,12 +137,12 @@ module _ (t : Tables) (inv : Invariant t) (room : t .«last_token» < lastNumber
             let r : getD ks j freshToken ≡ x = getD-set-other (t .tokens) i j k freshToken (eqb-false j i s) in
             let y : usedToken x ≡ true = rw r at v in
             let h = parent-le t (inv .parts .tokens) x y (all-at (soundToken t) (t .tokens) (inv .parts .tokens) j inside freshToken) in
-            rw r (inv .family j inside y m p (sym (found-same (x .parent) h) ∙ rw r at e))
+            rw r (kin j inside y m p (sym (found-same (x .parent) h) ∙ rw r at e))
 
-    token-follows : soundToken w k ≡ true → FamilyInOneVolume w → Follows t w
-    token-follows s f =
-        follows-on given-first
-        (tokens-change u ks (given-first .invariant) (length-set (t .tokens) i k) (all-set (soundToken w) (t .tokens) i k old-sound s)
+    token-keeps : soundToken w k ≡ true → (FamilyInOneVolume t → FamilyInOneVolume w) → Keeps t w
+    token-keeps s f =
+        keeps-on given-first
+        (tokens-change u ks (given-first .whole) (length-set (t .tokens) i k) (all-set (soundToken w) (t .tokens) i k old-sound s)
         (new-number (λ x. x .no .0) (t .tokens) i k (inv .parts .token-numbers)
         (λ j h. omega (arith, token-le t (getD (t .tokens) j k) (all-at (soundToken t) (t .tokens) (inv .parts .tokens) j h k))))
         f)
@@ -153,7 +153,7 @@ record ParentFits (t : Tables) (v : VolumeNo) (parent : TokenNo) : Type 0 where
   volume : (j : ℕ) (p : Token) → find (isToken parent) (t .tokens) ≡ hit j p → p .volume .0 ≡ v .0
   short : length (onHit [] (chain deepest (t .tokens)) (find (isToken parent) (t .tokens))) < deepest
 
-module _ (t : Tables) (inv : Invariant t) (v : VolumeNo) (parent : TokenNo) (a : ScopeArg) (fits : scopeFits a ≡ true)
+module _ (t : Tables) (inv : Whole t) (v : VolumeNo) (parent : TokenNo) (a : ScopeArg) (fits : scopeFits a ≡ true)
     (place : anyOf (isVolume v) (t .volumes) ≡ true) (family : ParentFits t v parent) where
   abbrev k : Token
   k = nextToken t v parent (toScope a)
@@ -165,12 +165,12 @@ module _ (t : Tables) (inv : Invariant t) (v : VolumeNo) (parent : TokenNo) (a :
   unfolding chain
   short = family .short
 
-  new-in : t .«last_token» < lastNumber → (h : Hit Token) → find freeToken (t .tokens) ≡ h → Follows t (tokenIn t k h .tables)
+  new-in : t .«last_token» < lastNumber → (h : Hit Token) → find freeToken (t .tokens) ≡ h → Keeps t (tokenIn t k h .tables)
   unfolding tokenIn volumeThere scopeFits parentThere
-  new-in room miss e = follows-self inv
+  new-in room miss e = keeps-self inv
   new-in room (hit i old) e =
       let u = w t inv room i old e k refl above in
-      token-follows t inv room i old e k refl above
+      token-keeps t inv room i old e k refl above
       (facts-token u k
       (record {
         numbered = le-given (t .«last_token» + 1) (t .«last_token» + 1) (omega arith) (omega arith);
@@ -184,10 +184,10 @@ module _ (t : Tables) (inv : Invariant t) (v : VolumeNo) (parent : TokenNo) (a :
       }))
       (one-volume t inv room i old e k refl above (family .volume))
 
-  new-follows : Follows t (newToken t v parent (toScope a) .tables)
+  new-keeps : Keeps t (newToken t v parent (toScope a) .tables)
   unfolding newToken
-  new-follows =
-      cond-case (λ o. Follows t (o .tables)) (leb lastNumber (t .«last_token»)) (refused t SPENT) _ (λ b. follows-self inv)
+  new-keeps =
+      cond-case (λ o. Keeps t (o .tables)) (leb lastNumber (t .«last_token»)) (refused t SPENT) _ (λ b. keeps-self inv)
       (λ b. new-in (leb-false lastNumber (t .«last_token») b) (find freeToken (t .tokens)) refl)
 
 -- a root has no parent
@@ -216,20 +216,20 @@ child-fits t m i p e d =
       short = rw f (omega (arith, chain-longer (t .tokens) deepest p, leb-false deepest (depth (t .tokens) p) d));
     }
 
-found-volume : (t : Tables) → Invariant t → (m : TokenNo) (i : ℕ) (p : Token) → tokenOf m t ≡ hit i p → anyOf (isVolume (p .volume)) (t .volumes) ≡ true
+found-volume : (t : Tables) → Whole t → (m : TokenNo) (i : ℕ) (p : Token) → tokenOf m t ≡ hit i p → anyOf (isVolume (p .volume)) (t .volumes) ≡ true
 unfolding tokenOf volumeThere
 found-volume t inv m i p e =
     token-facts t p (numbered-used (m .0) (p .no .0) (row-passes (isToken m) (t .tokens) 0 i p e))
     (found-passes (isToken m) (soundToken t) (t .tokens) i p (inv .parts .tokens) e) .volume
 
-pub grant-follows : (a : Account) (v : VolumeNo) (s : ScopeArg) (t : Tables) → Invariant t → Follows t (grantRule a v s t .tables)
+pub grant-keeps : (a : Account) (v : VolumeNo) (s : ScopeArg) (t : Tables) → Whole t → Keeps t (grantRule a v s t .tables)
 unfolding grantRule grantIn volumeOf
-grant-follows a v s t inv =
-    cond-case P (not (scopeFits s)) (refused t BAD) _ (λ b. follows-self inv)
+grant-keeps a v s t inv =
+    cond-case P (not (scopeFits s)) (refused t BAD) _ (λ b. keeps-self inv)
     (λ b. go (not-false (scopeFits s) b) (find (isVolume v) (t .volumes)) refl)
   where
     P : TablesOutcome → Type 0
-    P o = Follows t (o .tables)
+    P o = Keeps t (o .tables)
 
     there : (j : ℕ) (x : Volume) → find (isVolume v) (t .volumes) ≡ hit j x → anyOf (isVolume (x .no)) (t .volumes) ≡ true
     there j x e =
@@ -237,29 +237,29 @@ grant-follows a v s t inv =
         ap (λ y. anyOf (isVolume y) (t .volumes)) q ∙ found-some (isVolume v) (t .volumes) j x e
 
     go : scopeFits s ≡ true → (h : Hit Volume) → find (isVolume v) (t .volumes) ≡ h → P (grantIn t a s h)
-    go b miss e = follows-self inv
+    go b miss e = keeps-self inv
     go b (hit j x) e =
-        cond-case P (not (ownedBy a x)) (refused t NOT-OWNER) _ (λ c. follows-self inv)
-        (λ c. cond-case P (not (isOpen (x .status))) (refused t STATE) _ (λ d. follows-self inv)
-        (λ d. new-follows t inv (x .no) noToken s b (there j x e) (root-fits t (x .no))))
+        cond-case P (not (ownedBy a x)) (refused t NOT-OWNER) _ (λ c. keeps-self inv)
+        (λ c. cond-case P (not (isOpen (x .status))) (refused t STATE) _ (λ d. keeps-self inv)
+        (λ d. new-keeps t inv (x .no) noToken s b (there j x e) (root-fits t (x .no))))
 
-pub attenuate-follows : (m : TokenNo) (s : ScopeArg) (t : Tables) → Invariant t → Follows t (attenuateRule m s t .tables)
+pub attenuate-keeps : (m : TokenNo) (s : ScopeArg) (t : Tables) → Whole t → Keeps t (attenuateRule m s t .tables)
 unfolding attenuateRule attenuateIn
-attenuate-follows m s t inv =
-    cond-case P (not (scopeFits s)) (refused t BAD) _ (λ b. follows-self inv) (λ b. go (not-false (scopeFits s) b) (tokenOf m t) refl)
+attenuate-keeps m s t inv =
+    cond-case P (not (scopeFits s)) (refused t BAD) _ (λ b. keeps-self inv) (λ b. go (not-false (scopeFits s) b) (tokenOf m t) refl)
   where
     P : TablesOutcome → Type 0
-    P o = Follows t (o .tables)
+    P o = Keeps t (o .tables)
 
     go : scopeFits s ≡ true → (h : Hit Token) → tokenOf m t ≡ h → P (attenuateIn t s h)
-    go b miss e = follows-self inv
+    go b miss e = keeps-self inv
     go b (hit j p) e =
-        cond-case P (not (narrows s (p .scope))) (refused t WIDENS) _ (λ c. follows-self inv)
-        (λ c. cond-case P (leb deepest (depth (t .tokens) p)) (refused t DEEP) _ (λ d. follows-self inv)
-        (λ d. new-follows t inv (p .volume) (p .no) s b (found-volume t inv m j p e) (child-fits t m j p e d)))
+        cond-case P (not (narrows s (p .scope))) (refused t WIDENS) _ (λ c. keeps-self inv)
+        (λ c. cond-case P (leb deepest (depth (t .tokens) p)) (refused t DEEP) _ (λ d. keeps-self inv)
+        (λ d. new-keeps t inv (p .volume) (p .no) s b (found-volume t inv m j p e) (child-fits t m j p e d)))
 
 -- revoke: where the token stands in the chain of a parent, it stands in the child's too
-revoke-stay : (t : Tables) → Invariant t → (m : TokenNo) → ParentsStay (descends (t .tokens) m) (t .tokens)
+revoke-stay : (t : Tables) → Whole t → (m : TokenNo) → ParentsStay (descends (t .tokens) m) (t .tokens)
 unfolding descends anyOf
 revoke-stay t inv m j b w g i p e =
     not-pass (descends (t .tokens) m p)
@@ -273,40 +273,40 @@ revoke-stay t inv m j b w g i p e =
     rw (chain-parent (t .tokens) 7 k i p e) (or-last (isToken m k) (anyOf (isToken m) (chain 7 (t .tokens) p)) stands) in
     not-both (and-both w too) g)
 
-pub revoke-follows : (a : Account) (m : TokenNo) (t : Tables) → Invariant t → Follows t (revokeRule a m t .tables)
+pub revoke-keeps : (a : Account) (m : TokenNo) (t : Tables) → Whole t → Keeps t (revokeRule a m t .tables)
 unfolding revokeRule revokeIn revokeOwner
-revoke-follows a m t inv = go (tokenOf m t)
+revoke-keeps a m t inv = go (tokenOf m t)
   where
     P : TablesOutcome → Type 0
-    P o = Follows t (o .tables)
+    P o = Keeps t (o .tables)
 
     owner : (k : Token) (h : Hit Volume) → P (revokeOwner t a k h)
-    owner k miss = follows-self inv
+    owner k miss = keeps-self inv
     owner k (hit i x) =
-        cond-case P (not (ownedBy a x)) (refused t NOT-OWNER) _ (λ b. follows-self inv)
+        cond-case P (not (ownedBy a x)) (refused t NOT-OWNER) _ (λ b. keeps-self inv)
         (λ b. tokens-leave t (descends (t .tokens) (k .no)) (revoke-stay t inv (k .no)) inv)
 
     go : (h : Hit Token) → P (revokeIn t a h)
-    go miss = follows-self inv
+    go miss = keeps-self inv
     go (hit i k) = owner k (volumeOf (k .volume) t)
 
 -- look changes nothing
-pub look-follows : (m : TokenNo) (path : List ℕ) (t : Tables) → Invariant t → Follows t (lookRule m path t .tables)
+pub look-keeps : (m : TokenNo) (path : List ℕ) (t : Tables) → Whole t → Keeps t (lookRule m path t .tables)
 unfolding lookRule lookIn lookEntry
-look-follows m path t inv =
-    cond-case P (not (isPath path)) (refused t BAD) _ (λ b. follows-self inv) (λ b. go (tokenOf m t))
+look-keeps m path t inv =
+    cond-case P (not (isPath path)) (refused t BAD) _ (λ b. keeps-self inv) (λ b. go (tokenOf m t))
   where
     P : TablesOutcome → Type 0
-    P o = Follows t (o .tables)
+    P o = Keeps t (o .tables)
 
     entry : (h : Hit Entry) → P (lookEntry t h)
-    entry miss = follows-self inv
-    entry (hit i e) = follows-self inv
+    entry miss = keeps-self inv
+    entry (hit i e) = keeps-self inv
 
     go : (h : Hit Token) → P (lookIn t path h)
-    go miss = follows-self inv
+    go miss = keeps-self inv
     go (hit i k) =
-        cond-case P (not (inWindow (t .clock) (k .scope))) (refused t WINDOW) _ (λ b. follows-self inv)
-        (λ b. cond-case P (not (canRead (k .scope .mode))) (refused t MODE) _ (λ c. follows-self inv)
-        (λ c. cond-case P (not (covers (textBytes (k .scope .prefix)) path)) (refused t PREFIX) _ (λ d. follows-self inv)
+        cond-case P (not (inWindow (t .clock) (k .scope))) (refused t WINDOW) _ (λ b. keeps-self inv)
+        (λ b. cond-case P (not (canRead (k .scope .mode))) (refused t MODE) _ (λ c. keeps-self inv)
+        (λ c. cond-case P (not (covers (textBytes (k .scope .prefix)) path)) (refused t PREFIX) _ (λ d. keeps-self inv)
         (λ d. entry (entryOf (k .volume) path t))))

@@ -44,21 +44,22 @@ use Rattle.rules.specs.BranchLaws.{cond-case}
 use Rattle.rules.specs.NumberLaws.{numbered-used, numbered-eq, numbered-other, found-passes, found-some, new-number}
 use Rattle.rules.specs.RowFacts.{VolumeFacts, volume-facts, facts-volume, entry-facts, token-facts, count-facts, facts-counts}
 use Rattle.rules.specs.RowsKept.{Grown, given-le, le-given, volume-grown}
-use Rattle.rules.specs.Invariant.{Invariant, Follows, follows-self, follows-on, counts-grow}
+use Rattle.rules.specs.Invariant.{Whole, Keeps, keeps-self, keeps-on, counts-grow}
+use Rattle.rules.specs.Family.{FamilyInOneVolume}
 use Rattle.rules.specs.TokensGo.{ParentsStay}
-use Rattle.rules.specs.TokensFollow.{tokens-leave}
+use Rattle.rules.specs.TokensChange.{tokens-leave}
 use Rattle.rules.specs.HeldText.{text-bytes, name-held}
 
 -- volumes change: each is sound, and so is the rest of the tables beside them
-volumes-follow : (t : Tables) (ws : List Volume) → Invariant t → length ws ≡ length (t .volumes) → allOf (soundVolume t) ws ≡ true
-    → Rest (withVolumes t ws) → Follows t (withVolumes t ws)
-volumes-follow t ws i l a r =
+volumes-keep : (t : Tables) (ws : List Volume) → Whole t → length ws ≡ length (t .volumes) → allOf (soundVolume t) ws ≡ true
+    → Rest (withVolumes t ws) → Keeps t (withVolumes t ws)
+volumes-keep t ws i l a r =
     let u = withVolumes t ws in
     let g : Grown t u = omega arith in
     record {
       grown = g;
-      invariant = record {
-        family = i .family;
+      family = λ f. f;
+      whole = record {
         shape = record {
           volume-rows = l ∙ i .shape .volume-rows;
           entry-rows = i .shape .entry-rows;
@@ -81,17 +82,17 @@ grace-small clock Grace grace deleted e = leb-true grace 2 (and-right (leb 1 gra
 grace-small clock Deleted grace deleted e = leb-true grace 2 (and-left (leb grace 2) (leb deleted clock) e)
 
 -- a volume that a search found changes in what does not last
-module _ (t : Tables) (inv : Invariant t) (n : VolumeNo) (i : ℕ) (v : Volume) (found : volumeOf n t ≡ hit i v) where
+module _ (t : Tables) (inv : Whole t) (n : VolumeNo) (i : ℕ) (v : Volume) (found : volumeOf n t ≡ hit i v) where
   found-facts : VolumeFacts t v
   unfolding volumeOf
   found-facts =
       volume-facts t v (numbered-used (n .0) (v .no .0) (row-passes (isVolume n) (t .volumes) 0 i v found))
       (found-passes (isVolume n) (soundVolume t) (t .volumes) i v (inv .parts .volumes) found)
 
-  row-changes : (w : Volume) → lasting w ≡ lasting v → soundVolume t w ≡ true → Follows t (withVolumes t (set (t .volumes) i w))
+  row-changes : (w : Volume) → lasting w ≡ lasting v → soundVolume t w ≡ true → Keeps t (withVolumes t (set (t .volumes) i w))
   unfolding volumeOf
   row-changes w e s =
-      volumes-follow t (set (t .volumes) i w) inv (length-set (t .volumes) i w)
+      volumes-keep t (set (t .volumes) i w) inv (length-set (t .volumes) i w)
       (all-set (soundVolume t) (t .volumes) i w (inv .parts .volumes) s)
       (lasting-change t (set (t .volumes) i w)
       (map-set-same lasting (t .volumes) i w freshVolume (e ∙ ap lasting (sym (found-at (isVolume n) (t .volumes) i v found freshVolume))))
@@ -99,7 +100,7 @@ module _ (t : Tables) (inv : Invariant t) (n : VolumeNo) (i : ℕ) (v : Volume) 
 
   -- deposit
   deposited : (coins : ℕ) → tooMuch t v coins ≡ false
-      → Follows t (withDeposits (withVolumes t (set (t .volumes) i (withBalance v (v .balance + coins)))) (t .deposits + coins))
+      → Keeps t (withDeposits (withVolumes t (set (t .volumes) i (withBalance v (v .balance + coins)))) (t .deposits + coins))
   deposited coins b =
       let w = withBalance v (v .balance + coins) in
       let f = found-facts in
@@ -118,8 +119,8 @@ module _ (t : Tables) (inv : Invariant t) (n : VolumeNo) (i : ℕ) (v : Volume) 
       })) in
       let u = withVolumes t (set (t .volumes) i w) in
       let c = count-facts t (inv .parts .counts) in
-      follows-on first
-      (counts-grow u (t .clock) (t .«last_volume») (t .«last_token») (t .«last_relay») (t .deposits + coins) (first .invariant) (omega arith)
+      keeps-on first
+      (counts-grow u (t .clock) (t .«last_volume») (t .«last_token») (t .«last_relay») (t .deposits + coins) (first .whole) (omega arith)
       (facts-counts (withDeposits u (t .deposits + coins))
       (record {
         clock = c .clock;
@@ -131,7 +132,7 @@ module _ (t : Tables) (inv : Invariant t) (n : VolumeNo) (i : ℕ) (v : Volume) 
 
   -- another status
   status-changes : (s : Status) (grace deleted : ℕ) → soundStatus (t .clock) s grace deleted ≡ true
-      → Follows t (withVolumes t (set (t .volumes) i (withStatus v s grace deleted)))
+      → Keeps t (withVolumes t (set (t .volumes) i (withStatus v s grace deleted)))
   status-changes s grace deleted e =
       let f = found-facts in
       row-changes (withStatus v s grace deleted) refl
@@ -139,24 +140,24 @@ module _ (t : Tables) (inv : Invariant t) (n : VolumeNo) (i : ℕ) (v : Volume) 
       (record { numbered = f .numbered; name = f .name; shards = f .shards; cap = f .cap; balance = f .balance; status = e }))
 
   -- delete: the volume's tokens go, and no other token has one of them for its parent
-  parents-stay : ParentsStay (isTokenOf (v .no)) (t .tokens)
-  parents-stay j b w g i k e =
+  parents-stay : FamilyInOneVolume t → ParentsStay (isTokenOf (v .no)) (t .tokens)
+  parents-stay kin j b w g i k e =
       let row = getD (t .tokens) j freshToken in
       not-pass (isTokenOf (v .no) k)
       (λ h.
-      let q : k .volume .0 ≡ row .volume .0 = inv .family j b w i k e in
+      let q : k .volume .0 ≡ row .volume .0 = kin j b w i k e in
       let m : numbered (v .no .0) (row .volume .0) ≡ true = rw q at (and-right (usedToken k) (numbered (v .no .0) (k .volume .0)) h) in
       not-both (and-both w m) g)
 
-  deleted : Follows t
+  deleted : FamilyInOneVolume t → Keeps t
       (withTokens (withVolumes t (set (t .volumes) i (withStatus v Deleted (v .grace) (t .clock)))) (cleared (isTokenOf (v .no)) freshToken (t .tokens)))
-  deleted =
+  deleted kin =
       let small = grace-small (t .clock) (v .status) (v .grace) (v .deleted) (found-facts .status) in
       let first =
       status-changes Deleted (v .grace) (t .clock)
       (and-both (le-leb (v .grace) 2 small) (le-leb (t .clock) (t .clock) (omega arith))) in
-      follows-on first
-      (tokens-leave (withVolumes t (set (t .volumes) i (withStatus v Deleted (v .grace) (t .clock)))) (isTokenOf (v .no)) parents-stay (first .invariant))
+      keeps-on first
+      (tokens-leave (withVolumes t (set (t .volumes) i (withStatus v Deleted (v .grace) (t .clock)))) (isTokenOf (v .no)) (parents-stay kin) (first .whole))
 
 -- an entry's volume is in the table
 in-any : (t : Tables) (p : Placement) (n : VolumeNo) → soundIn t p (find (isVolume n) (t .volumes)) ≡ true → anyOf (isVolume n) (t .volumes) ≡ true
@@ -168,7 +169,7 @@ in-any t p n h = go (find (isVolume n) (t .volumes)) refl
     go (hit i v) e = found-some (isVolume n) (t .volumes) i v e
 
 -- a new volume
-module _ (t : Tables) (inv : Invariant t) where
+module _ (t : Tables) (inv : Whole t) where
   -- every volume that is named has a number that was given
   there-le : (n : VolumeNo) → anyOf (isVolume n) (t .volumes) ≡ true → n .0 ≤ t .«last_volume»
   there-le n e =
@@ -201,7 +202,7 @@ module _ (t : Tables) (inv : Invariant t) where
     abbrev ws : List Volume
     ws = set (t .volumes) i v
 
-    given-first : Follows t u
+    given-first : Keeps t u
     given-first =
         let f = count-facts t (inv .parts .counts) in
         counts-grow t (t .clock) n (t .«last_token») (t .«last_relay») (t .deposits) inv (omega arith)
@@ -265,64 +266,64 @@ module _ (t : Tables) (inv : Invariant t) where
       tokens = λ j h w. found-same (getD (t .tokens) j freshToken .volume) (token-le (getD (t .tokens) j freshToken) w (all-at (soundToken t) (t .tokens) (inv .parts .tokens) j h freshToken));
     }
 
-    created : Follows t (withVolumes u ws)
+    created : Keeps t (withVolumes u ws)
     created =
-        follows-on given-first
-        (volumes-follow u ws (given-first .invariant) (length-set (t .volumes) i v)
-        (all-set (soundVolume u) (t .volumes) i v (given-first .invariant .parts .volumes) new-sound)
-        (volumes-change u ws others-read (rest-of (given-first .invariant .parts))))
+        keeps-on given-first
+        (volumes-keep u ws (given-first .whole) (length-set (t .volumes) i v)
+        (all-set (soundVolume u) (t .volumes) i v (given-first .whole .parts .volumes) new-sound)
+        (volumes-change u ws others-read (rest-of (given-first .whole .parts))))
 
-pub create-follows : (a : Account) (name : List ℕ) (k m : ℕ) (cap : Cap) (t : Tables) → Invariant t → Follows t (createRule a name k m cap t .tables)
+pub create-keeps : (a : Account) (name : List ℕ) (k m : ℕ) (cap : Cap) (t : Tables) → Whole t → Keeps t (createRule a name k m cap t .tables)
 unfolding createRule createIn
-create-follows a name k m cap t inv =
-    cond-case P (not (isName name && shardsFit k m && capFits cap)) (refused t BAD) _ (λ b. follows-self inv)
-    (λ b. cond-case P (anyOf (hasName a name) (t .volumes)) (refused t NAME-TAKEN) _ (λ c. follows-self inv)
-    (λ c. cond-case P (leb lastNumber (t .«last_volume»)) (refused t SPENT) _ (λ d. follows-self inv)
+create-keeps a name k m cap t inv =
+    cond-case P (not (isName name && shardsFit k m && capFits cap)) (refused t BAD) _ (λ b. keeps-self inv)
+    (λ b. cond-case P (anyOf (hasName a name) (t .volumes)) (refused t NAME-TAKEN) _ (λ c. keeps-self inv)
+    (λ c. cond-case P (leb lastNumber (t .«last_volume»)) (refused t SPENT) _ (λ d. keeps-self inv)
     (λ d. go (not-false (isName name && shardsFit k m && capFits cap) b) c (leb-false lastNumber (t .«last_volume») d) (find freeVolume (t .volumes)) refl)))
   where
     P : TablesOutcome → Type 0
-    P o = Follows t (o .tables)
+    P o = Keeps t (o .tables)
 
     go : (isName name && shardsFit k m && capFits cap) ≡ true → anyOf (hasName a name) (t .volumes) ≡ false → t .«last_volume» < lastNumber
         → (h : Hit Volume) → find freeVolume (t .volumes) ≡ h → P (createIn t (newVolume (t .«last_volume» + 1) a name k m cap) h)
-    go b c d miss e = follows-self inv
+    go b c d miss e = keeps-self inv
     go b c d (hit i old) e = created t inv a name k m cap b c d i old e
 
-pub deposit-follows : (n : VolumeNo) (coins : ℕ) (t : Tables) → Invariant t → Follows t (depositRule n coins t .tables)
+pub deposit-keeps : (n : VolumeNo) (coins : ℕ) (t : Tables) → Whole t → Keeps t (depositRule n coins t .tables)
 unfolding depositRule depositIn
-deposit-follows n coins t inv = go (volumeOf n t) refl
+deposit-keeps n coins t inv = go (volumeOf n t) refl
   where
     P : TablesOutcome → Type 0
-    P o = Follows t (o .tables)
+    P o = Keeps t (o .tables)
 
     go : (h : Hit Volume) → volumeOf n t ≡ h → P (depositIn t coins h)
-    go miss e = follows-self inv
+    go miss e = keeps-self inv
     go (hit i v) e =
-        cond-case P (not (isOpen (v .status))) (refused t STATE) _ (λ b. follows-self inv)
-        (λ b. cond-case P (tooMuch t v coins) (refused t TOO-MUCH) _ (λ c. follows-self inv) (deposited t inv n i v e coins))
+        cond-case P (not (isOpen (v .status))) (refused t STATE) _ (λ b. keeps-self inv)
+        (λ b. cond-case P (tooMuch t v coins) (refused t TOO-MUCH) _ (λ c. keeps-self inv) (deposited t inv n i v e coins))
 
-pub delete-follows : (a : Account) (n : VolumeNo) (t : Tables) → Invariant t → Follows t (deleteRule a n t .tables)
+pub delete-keeps : (a : Account) (n : VolumeNo) (t : Tables) → Whole t → FamilyInOneVolume t → Keeps t (deleteRule a n t .tables)
 unfolding deleteRule deleteIn
-delete-follows a n t inv = go (volumeOf n t) refl
+delete-keeps a n t inv kin = go (volumeOf n t) refl
   where
     P : TablesOutcome → Type 0
-    P o = Follows t (o .tables)
+    P o = Keeps t (o .tables)
 
     go : (h : Hit Volume) → volumeOf n t ≡ h → P (deleteIn t a h)
-    go miss e = follows-self inv
+    go miss e = keeps-self inv
     go (hit i v) e =
-        cond-case P (not (ownedBy a v)) (refused t NOT-OWNER) _ (λ b. follows-self inv)
-        (λ b. cond-case P (not (isOpen (v .status))) (refused t STATE) _ (λ c. follows-self inv) (λ c. deleted t inv n i v e))
+        cond-case P (not (ownedBy a v)) (refused t NOT-OWNER) _ (λ b. keeps-self inv)
+        (λ b. cond-case P (not (isOpen (v .status))) (refused t STATE) _ (λ c. keeps-self inv) (λ c. deleted t inv n i v e kin))
 
-pub undelete-follows : (a : Account) (n : VolumeNo) (t : Tables) → Invariant t → Follows t (undeleteRule a n t .tables)
+pub undelete-keeps : (a : Account) (n : VolumeNo) (t : Tables) → Whole t → Keeps t (undeleteRule a n t .tables)
 unfolding undeleteRule undeleteIn
-undelete-follows a n t inv = go (volumeOf n t) refl
+undelete-keeps a n t inv = go (volumeOf n t) refl
   where
     P : TablesOutcome → Type 0
-    P o = Follows t (o .tables)
+    P o = Keeps t (o .tables)
 
     go : (h : Hit Volume) → volumeOf n t ≡ h → P (undeleteIn t a h)
-    go miss e = follows-self inv
+    go miss e = keeps-self inv
     go (hit i v) e =
-        cond-case P (not (ownedBy a v)) (refused t NOT-OWNER) _ (λ b. follows-self inv)
-        (λ b. cond-case P (not (isDeleted (v .status))) (refused t STATE) _ (λ c. follows-self inv) (λ c. status-changes t inv n i v e Active 0 0 refl))
+        cond-case P (not (ownedBy a v)) (refused t NOT-OWNER) _ (λ b. keeps-self inv)
+        (λ b. cond-case P (not (isDeleted (v .status))) (refused t STATE) _ (λ c. keeps-self inv) (λ c. status-changes t inv n i v e Active 0 0 refl))
