@@ -1,29 +1,24 @@
 -- The coins of an advance: what the volumes had is what they have, what they paid in rents and what was sent back. Assumes nothing.
 use mathlib.Core.Path.{_≡_, refl, ap, sym, _∙_}
-use mathlib.Core.Bool.{Bool, true, false, _&&_, _||_, cond, not}
+use mathlib.Core.Bool.{Bool, true, false, cond}
 use mathlib.Core.Logic.{⊎-elim}
-use mathlib.Core.List.{List, [], _∷_, map}
-use Prim.Native.Nat.{ℕ, _+_, _-_, _≤_, _<_, min}
+use mathlib.Core.List.{List, map}
+use Prim.Native.Nat.{ℕ, _+_, _≤_}
 use native.Mathlib.Omega.{arith}
 use borrow.Author.Tests.{leb-true}
-use lib.Dec.{leb, ltb}
-use lib.ListN.{length, getD, set}
-use Rattle.lists.specs.Lists.{Hit, miss, hit, find, keep, sumOf}
+use lib.Dec.{leb}
+use Rattle.lists.specs.Lists.{keep, sumOf}
 use Rattle.lists.specs.BoolLaws.{and-left, pass-or-fail}
-use Rattle.lists.specs.SearchLaws.{found-below, found-at, row-passes}
 use Rattle.lists.specs.SumLaws.{sum-keep, sum-plus}
-use Rattle.lists.specs.RowLaws.{sum-same}
-use Rattle.lists.specs.ModifyLaws.{row-store, sum-modify}
 use Rattle.rules.specs.declared.Status.{Status}
 use Rattle.rules.specs.declared.Status.the-variants.{Active, Grace, Deleted}
 use Rattle.rules.specs.declared.Volume.{Volume}
 use Rattle.rules.specs.declared.Tables.{Tables}
-use Rattle.rules.specs.declared.Desk.{Desk}
 use Rattle.rules.specs.Fresh.{freshVolume}
-use Rattle.rules.specs.Tables.{given, usedVolume, withClock, withBalance, cleared}
+use Rattle.rules.specs.Tables.{given, usedVolume, withClock, cleared}
 use Rattle.rules.specs.Rent.{rentNow, epochEnds}
 use Rattle.rules.specs.VolumeCalls.{dropEntries}
-use Rattle.rules.specs.Advance.{paidOf, standing, afterRent, settled, settle, atEpoch, relaysLeave, isDue, collect, advanced}
+use Rattle.rules.specs.Advance.{paidOf, afterRent, settled, settle, atEpoch, relaysLeave, isDue, collect, advanced}
 use Rattle.rules.specs.Coins.{balanceOf, liveBalances, rentPaid, rentsPaid, afterRents, sentBack}
 use Rattle.rules.specs.LiveLaws.{liveIn, live-sum}
 use Rattle.rules.specs.MappedLaws.{sum-mapped}
@@ -73,7 +68,8 @@ module _ (t : Tables) where
       (sum-plus keptIn (rentIn t) liveIn (t .volumes) settled-live)
 
   -- the volumes after the rents have what they had but for the rents paid
-  rents-live : (end : Bool) → sumOf liveIn (t .volumes) ≡ sumOf liveIn (atEpoch end t .volumes) + cond end (sumOf (rentPaid t) (keep usedVolume (t .volumes))) 0
+  rents-live : (end : Bool)
+      → sumOf liveIn (t .volumes) ≡ sumOf liveIn (atEpoch end t .volumes) + cond end (sumOf (rentPaid t) (keep usedVolume (t .volumes))) 0
   unfolding atEpoch settle
   rents-live true = settle-pays
   rents-live false = omega arith
@@ -120,7 +116,8 @@ module _ (t : Tables) (block : ℕ) where
   advanced-coins =
       let vs = afterRents t block in
       let left = cleared (isDue block) freshVolume vs in
-      let a : liveBalances (advanced t block) ≡ sumOf liveIn left = ap (λ (l : List Volume). sumOf balanceOf (keep usedVolume l)) advanced-volumes ∙ live-sum left in
+      let a : liveBalances (advanced t block) ≡ sumOf liveIn left =
+      ap (λ (l : List Volume). sumOf balanceOf (keep usedVolume l)) advanced-volumes ∙ live-sum left in
       omega (
         arith,
         live-sum (t .volumes),

@@ -1,22 +1,19 @@
 -- Advance keeps the tables sound: the clock goes on, relays leave, rents are settled at an epoch end, and what is due is collected. Assumes
 -- nothing.
-use mathlib.Core.Path.{_≡_, refl, ap, sym, _∙_}
-use mathlib.Core.Bool.{Bool, true, false, _&&_, _||_, cond}
-use mathlib.Core.List.{List}
+use mathlib.Core.Path.{_≡_, refl, _∙_}
+use mathlib.Core.Bool.{Bool, true, false, _||_}
 use Prim.Native.Nat.{ℕ, _<_, _≤_}
 use native.Mathlib.Omega.{arith}
-use borrow.Author.Tests.{leb-true, ltb-false, le-leb}
+use borrow.Author.Tests.{ltb-false, le-leb}
 use lib.Dec.{leb, ltb}
 use lib.ListN.{length, getD}
 use Rattle.lists.specs.BoolLaws.{or-left, or-right}
 use Rattle.lists.specs.TestLaws.{all-at, all-weaker}
-use Rattle.rules.specs.declared.Volume.{Volume}
-use Rattle.rules.specs.declared.Relay.{Relay}
 use Rattle.rules.specs.declared.Tables.{Tables}
 use Rattle.rules.specs.Limits.{clockLimit}
 use Rattle.rules.specs.Numbers.{CLOCK}
 use Rattle.rules.specs.Fresh.{freshVolume, freshRelay}
-use Rattle.rules.specs.Tables.{withClock, withRelays, cleared}
+use Rattle.rules.specs.Tables.{withClock}
 use Rattle.rules.specs.Relays.{isDead}
 use Rattle.rules.specs.Rent.{epochEnds}
 use Rattle.rules.specs.Outcome.{refused, accepted}
@@ -30,7 +27,7 @@ use Rattle.rules.specs.BranchLaws.{cond-case}
 use Rattle.rules.specs.RowFacts.{free-relay, count-facts, facts-counts}
 use Rattle.rules.specs.RowsKept.{Grown, volume-grown, entry-grown, relay-grown, token-stays}
 use Rattle.rules.specs.Invariant.{Invariant, Follows, follows-self}
-use Rattle.rules.specs.RestParts.{Rest, rest-of, with-volumes}
+use Rattle.rules.specs.RestParts.{Rest, rest-of}
 use Rattle.rules.specs.ClearedLaws.{length-cleared, all-cleared, clash-cleared}
 use Rattle.rules.specs.LastingLaws.{entry-same}
 use Rattle.rules.specs.RoomLaws.{no-zero}
@@ -47,7 +44,15 @@ module _ (t : Tables) (block : ℕ) (later : t .clock ≤ block) (limit : block 
       let u = withClock t block in
       let f = count-facts t (p .counts) in
       record {
-        counts = facts-counts u (record { clock = le-leb block clockLimit limit; deposits = f .deposits; volumes = f .volumes; tokens = f .tokens; relays = f .relays });
+        counts =
+            facts-counts u
+            (record {
+              clock = le-leb block clockLimit limit;
+              deposits = f .deposits;
+              volumes = f .volumes;
+              tokens = f .tokens;
+              relays = f .relays;
+            });
         volumes = all-weaker (soundVolume t) (soundVolume u) (t .volumes) (volume-grown t u clock-grown) (p .volumes);
         volume-numbers = p .volume-numbers;
         volume-names = p .volume-names;
@@ -80,7 +85,8 @@ module _ (t : Tables) where
         relays =
             all-cleared (isDead (t .clock)) freshRelay (soundRelay u) (t .relays) freshRelay (free-relay u freshRelay refl)
             (λ j b n. all-at (soundRelay t) (t .relays) (p .relays) j b freshRelay);
-        relay-numbers = clash-cleared (isDead (t .clock)) freshRelay sameRelayRow (t .relays) (λ y. refl) (λ x. no-zero (x .no .0)) (p .relay-numbers);
+        relay-numbers =
+            clash-cleared (isDead (t .clock)) freshRelay sameRelayRow (t .relays) (λ y. refl) (λ x. no-zero (x .no .0)) (p .relay-numbers);
       }
 
   leave-shape : Shape t → Shape (relaysLeave t)
@@ -123,7 +129,11 @@ module _ (block : ℕ) (t : Tables) (s : Invariant t) where
       let u = withClock t block in
       let g = clock-grown t block later limit in
       due-follows t (relaysLeave u)
-      (record { parts = leave-parts u (clock-parts t block later limit (s .parts)); shape = leave-shape u (clock-shape t block later limit (s .shape)); family = s .family })
+      (record {
+        parts = leave-parts u (clock-parts t block later limit (s .parts));
+        shape = leave-shape u (clock-shape t block later limit (s .shape));
+        family = s .family;
+      })
       (record { clock = g .clock; volumes = g .volumes; tokens = g .tokens; relays = g .relays })
       (leb 1 (epochEnds (t .clock) block))
 

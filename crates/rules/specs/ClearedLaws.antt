@@ -10,7 +10,7 @@ use Rattle.lists.specs.Lists.{bit, Hit, miss, hit, firstRow, allOf, anyOf, coun
 use Rattle.lists.specs.BoolLaws.{and-both, or-left, or-right, or-none, not-both}
 use Rattle.lists.specs.TestLaws.{miss-at}
 use Rattle.rules.specs.Tables.{cleared}
-use Rattle.rules.specs.MappedLaws.{clash-mapped}
+use Rattle.rules.specs.MappedLaws.{clash-mapped, same-any}
 
 -- a row, or a fresh one where the row passes the test
 abbrev pub orFresh : {A : Type 0} → (A → Bool) → A → A → A
@@ -23,7 +23,8 @@ module _ {A : Type 0} (p : A → Bool) where
   keep-cond q true x l e = (λ t. or-left (q x) (anyOf q l) e, or-right (q x) (anyOf q l) e)
   keep-cond q false x l e = (λ t. absurd (false≢true t), e)
 
-  pub none-kept : (q : A → Bool) (l : List A) (j : ℕ) (d : A) → anyOf q (keep p l) ≡ false → j < length l → p (getD l j d) ≡ true → q (getD l j d) ≡ false
+  pub none-kept : (q : A → Bool) (l : List A) (j : ℕ) (d : A) → anyOf q (keep p l) ≡ false → j < length l → p (getD l j d) ≡ true
+      → q (getD l j d) ≡ false
   unfolding keep
   none-kept q [] j d e h t = absurd (not-suc-le-zero h)
   none-kept q (x ∷ xs) zero d e h t = keep-cond q (p x) x (keep p xs) e .0 t
@@ -94,6 +95,10 @@ module _ {A : Type 0} (p : A → Bool) (z : A) where
       rw (find-cleared q (suc k) xs d f (λ j h. n (suc j) (omega arith)))
       (find-orFresh q (p x) k x (firstRow q (suc k) xs) f (n 0 (omega arith)))
 
+  pub any-cleared : (q : A → Bool) (l : List A) (d : A) → q z ≡ false → ((j : ℕ) → j < length l → p (getD l j d) ≡ true → q (getD l j d) ≡ false)
+      → anyOf q (cleared p z l) ≡ anyOf q l
+  any-cleared q l d f n = same-any q (cleared p z l) l (find-cleared q 0 l d f n)
+
   -- a row that it found and that stays is found, and nothing where nothing was
   found-orFresh : (q : A → Bool) (a b : Bool) (k i : ℕ) (y x : A) (g h : Hit A) → q z ≡ false → q y ≡ a → p y ≡ b → p x ≡ false
       → (h ≡ hit i x → g ≡ hit i x) → cond a (hit k y) h ≡ hit i x → cond (q (cond b z y)) (hit k (cond b z y)) g ≡ hit i x
@@ -126,7 +131,8 @@ module _ {A : Type 0} (p : A → Bool) (z : A) where
   sum-cleared f (x ∷ xs) e = omega (arith, sum-orFresh f (p x) x (keep p xs) e, sum-cleared f xs e)
 
   -- a count
-  count-orFresh : (q : A → Bool) (b : Bool) (x : A) (l : List A) → q z ≡ false → bit (q (cond b z x)) + countIf q (cond b (x ∷ l) l) ≡ bit (q x) + countIf q l
+  count-orFresh : (q : A → Bool) (b : Bool) (x : A) (l : List A) → q z ≡ false
+      → bit (q (cond b z x)) + countIf q (cond b (x ∷ l) l) ≡ bit (q x) + countIf q l
   unfolding countIf
   count-orFresh q true x l e = rw e (omega arith)
   count-orFresh q false x l e = refl

@@ -1,11 +1,11 @@
 -- The law of coins: "Over any history, deposits equal live balances plus rents paid plus balances sent back, each summed from the calls."
 -- It holds of every list of calls, and the desks need not be sound for it: no volume pays more than it has. Assumes nothing.
-use mathlib.Core.Path.{_≡_, refl, _∙_}
-use mathlib.Core.Bool.{Bool, true, false, _||_, cond, not}
+use mathlib.Core.Path.{_≡_, refl}
+use mathlib.Core.Bool.{true, false, cond, not}
 use mathlib.Core.List.{List, [], _∷_}
 use Prim.Native.Nat.{ℕ, _+_}
 use native.Mathlib.Omega.{arith}
-use lib.Dec.{eqb, leb, ltb}
+use lib.Dec.{eqb, leb}
 use lib.ListN.{getD, set}
 use Rattle.lists.specs.Lists.{Hit, miss, hit, find, keep, sumOf}
 use Rattle.lists.specs.SearchLaws.{row-passes}
@@ -18,7 +18,7 @@ use Rattle.rules.specs.declared.Desk.{Desk}
 use Rattle.rules.specs.Limits.{slotRows}
 use Rattle.rules.specs.Numbers.{BAD, CLOCK, NO-VOLUME, STATE, TOO-MUCH}
 use Rattle.rules.specs.Fresh.{freshSession, freshDesk}
-use Rattle.rules.specs.Tables.{given, usedVolume, isVolume, volumeOf, withVolumes, withDeposits, withBalance}
+use Rattle.rules.specs.Tables.{usedVolume, isVolume, volumeOf, withVolumes, withDeposits, withBalance}
 use Rattle.rules.specs.Outcome.{refusal, isAccepted, refused, accepted, deskRefused}
 use Rattle.rules.specs.VolumeCalls.{isOpen, tooMuch, depositIn, depositRule}
 use Rattle.rules.specs.Advance.{advanced, badBlock, advanceRule}
@@ -29,11 +29,12 @@ use Rattle.rules.specs.BranchLaws.{cond-case}
 use Rattle.rules.specs.NumberLaws.{numbered-used}
 use Rattle.rules.specs.LiveLaws.{liveIn, cond-zero, live-set}
 use Rattle.rules.specs.AdvanceCoins.{advanced-coins, advanced-deposits}
-use Rattle.rules.specs.CoinlessCalls.{Unmoved, create-coins, delete-coins, undelete-coins, remove-coins, grant-coins, attenuate-coins, revoke-coins, look-coins, register-coins, heartbeat-coins, open-coins, stage-coins, commit-coins, abandon-coins}
+use Rattle.rules.specs.UnmovedCoins.{Unmoved, create-coins, delete-coins, undelete-coins, remove-coins, grant-coins, attenuate-coins, revoke-coins, look-coins, register-coins, heartbeat-coins, open-coins, stage-coins, commit-coins, abandon-coins}
 
 -- a call that answers a on the tables t and leaves u: what it brings in, pays and sends back, where it is accepted, accounts for the balances
 record Books (m : Move) (t : Tables) (a : Answer) (u : Tables) : Type 0 where
-  coins : liveBalances t + cond (isAccepted a) (coinsIn m t) 0 ≡ liveBalances u + cond (isAccepted a) (coinsPaid m t) 0 + cond (isAccepted a) (coinsBack m t) 0
+  coins : liveBalances t + cond (isAccepted a) (coinsIn m t) 0
+      ≡ liveBalances u + cond (isAccepted a) (coinsPaid m t) 0 + cond (isAccepted a) (coinsBack m t) 0
   deposited : u .deposits ≡ t .deposits + cond (isAccepted a) (coinsIn m t) 0
 
 refused-books : (m : Move) (t : Tables) (n : ℕ) → eqb n 0 ≡ false → Books m t (refusal n) t
@@ -48,7 +49,8 @@ unmoved-books t u a e = record {
 advance-books : (block : ℕ) (t : Tables) → Books (advances block) t (advanceRule block t .answer) (advanceRule block t .tables)
 unfolding advanceRule advanced
 advance-books block t =
-    cond-case (λ o. Books (advances block) t (o .answer) (o .tables)) (badBlock (t .clock) block) (refused t CLOCK) (accepted block (advanced t block))
+    cond-case (λ o. Books (advances block) t (o .answer) (o .tables)) (badBlock (t .clock) block) (refused t CLOCK)
+    (accepted block (advanced t block))
     (λ e. refused-books (advances block) t CLOCK refl)
     (λ e. record {
       coins = omega (arith, advanced-coins t block);
@@ -57,12 +59,12 @@ advance-books block t =
 
 module _ (t : Tables) (n : VolumeNo) (coins : ℕ) (i : ℕ) (v : Volume) (e : find (isVolume n) (t .volumes) ≡ hit i v) where
   -- the tables after an accepted deposit
-  abbrev banked : Tables
-  banked = withDeposits (withVolumes t (set (t .volumes) i (withBalance v (v .balance + coins)))) (t .deposits + coins)
+  abbrev afterDeposit : Tables
+  afterDeposit = withDeposits (withVolumes t (set (t .volumes) i (withBalance v (v .balance + coins)))) (t .deposits + coins)
 
-  banked-live : liveBalances t + coins ≡ liveBalances banked
+  deposit-live : liveBalances t + coins ≡ liveBalances afterDeposit
   unfolding liveBalances
-  banked-live =
+  deposit-live =
       let w = withBalance v (v .balance + coins) in
       let used : usedVolume v ≡ true = numbered-used (n .0) (v .no .0) (row-passes (isVolume n) (t .volumes) 0 i v e) in
       let before : liveIn v ≡ v .balance = rw used in
@@ -73,10 +75,10 @@ module _ (t : Tables) (n : VolumeNo) (coins : ℕ) (i : ℕ) (v : Volume) (e : f
   unfolding depositIn
   deposit-hit =
       cond-case (λ o. Books (deposits coins) t (o .answer) (o .tables)) (not (isOpen (v .status))) (refused t STATE)
-      (cond (tooMuch t v coins) (refused t TOO-MUCH) (accepted 0 banked)) (λ q. refused-books (deposits coins) t STATE refl)
+      (cond (tooMuch t v coins) (refused t TOO-MUCH) (accepted 0 afterDeposit)) (λ q. refused-books (deposits coins) t STATE refl)
       (λ q.
-      cond-case (λ o. Books (deposits coins) t (o .answer) (o .tables)) (tooMuch t v coins) (refused t TOO-MUCH) (accepted 0 banked)
-      (λ r. refused-books (deposits coins) t TOO-MUCH refl) (λ r. record { coins = omega (arith, banked-live); deposited = refl }))
+      cond-case (λ o. Books (deposits coins) t (o .answer) (o .tables)) (tooMuch t v coins) (refused t TOO-MUCH) (accepted 0 afterDeposit)
+      (λ r. refused-books (deposits coins) t TOO-MUCH refl) (λ r. record { coins = omega (arith, deposit-live); deposited = refl }))
 
 deposit-in : (t : Tables) (n : VolumeNo) (coins : ℕ) (h : Hit Volume) → find (isVolume n) (t .volumes) ≡ h
     → Books (deposits coins) t (depositIn t coins h .answer) (depositIn t coins h .tables)

@@ -2,18 +2,17 @@
 -- token its parent. Assumes nothing.
 use mathlib.Core.Path.{_≡_, refl, ap, _∙_}
 use mathlib.Core.Bool.{Bool, true, false, _&&_}
-use mathlib.Core.List.{List, map}
+use mathlib.Core.List.{List}
 use Prim.Native.Nat.{ℕ, _<_}
 use lib.ListN.{length, getD, length-map}
-use Rattle.lists.specs.Lists.{hit, find, keep, anyOf}
+use Rattle.lists.specs.Lists.{keep}
 use Rattle.lists.specs.TestLaws.{none-at, at-none}
 use Rattle.rules.specs.declared.VolumeNo.{VolumeNo}
 use Rattle.rules.specs.declared.Volume.{Volume}
-use Rattle.rules.specs.declared.Entry.{Entry}
 use Rattle.rules.specs.declared.Token.{Token}
 use Rattle.rules.specs.declared.Tables.{Tables}
 use Rattle.rules.specs.Fresh.{noVolume, freshVolume, freshEntry, freshToken}
-use Rattle.rules.specs.Tables.{usedVolume, usedToken, isVolume, isToken, withVolumes, withTokens, cleared}
+use Rattle.rules.specs.Tables.{usedVolume, usedToken, isVolume, withTokens, cleared}
 use Rattle.rules.specs.Relays.{lightened}
 use Rattle.rules.specs.VolumeCalls.{dropEntries}
 use Rattle.rules.specs.Advance.{isOneOf, entryOfOne, tokenOfOne, collect}

@@ -1,17 +1,17 @@
 -- A volume's number, owner, name, K, M and cap last as long as the volume does, and the other rows read nothing else of it. So volumes
 -- that change in anything else leave the rest of the tables sound. Assumes nothing.
 use mathlib.Core.Path.{_≡_, refl, ap, sym, _∙_}
-use mathlib.Core.Bool.{Bool, true, false, _&&_}
+use mathlib.Core.Bool.{Bool, true, _&&_}
 use mathlib.Core.Logic.{⊎-elim}
 use mathlib.Core.List.{List, map}
 use Prim.Native.Nat.{ℕ, _<_}
 use lib.ListN.{length, getD}
 use Rattle.amount.specs.declared.Cap.{Cap}
-use Rattle.lists.specs.Lists.{Hit, miss, hit, firstRow, find, allOf, sumOf, noClash}
+use Rattle.lists.specs.Lists.{Hit, miss, hit, firstRow, find, noClash}
 use Rattle.lists.specs.Bytes.{sameBytes}
 use Rattle.lists.specs.BoolLaws.{pass-or-fail}
 use Rattle.lists.specs.SearchLaws.{miss-hit}
-use Rattle.lists.specs.RowLaws.{map-agree, sum-same, all-same, clash-map}
+use Rattle.lists.specs.RowLaws.{clash-map}
 use Rattle.text.specs.declared.Text.{Text}
 use Rattle.text.specs.Text.{textBytes}
 use Rattle.rules.specs.declared.VolumeNo.{VolumeNo}
@@ -26,10 +26,10 @@ use Rattle.rules.specs.declared.Tables.{Tables}
 use Rattle.rules.specs.Fresh.{freshEntry, freshToken, freshRelay}
 use Rattle.rules.specs.Tables.{given, numbered, usedToken, isVolume, withVolumes}
 use Rattle.rules.specs.Relays.{shardSize, shardBytes, bytesOn}
-use Rattle.rules.specs.Sound.{soundVolume, soundEntry, soundToken, soundRelay, soundIn, soundPlacement, volumeThere, parentThere, sameVolume, sameName}
+use Rattle.rules.specs.Sound.{soundEntry, soundToken, soundRelay, soundIn, soundPlacement, volumeThere, parentThere, sameVolume, sameName}
 use Rattle.rules.specs.RowFacts.{free-token}
 use Rattle.rules.specs.RestParts.{Rest}
-use Rattle.rules.specs.MappedLaws.{mapHit, found-any, find-mapped}
+use Rattle.rules.specs.MappedLaws.{all-agree, sum-agree, mapHit, found-any, find-mapped}
 
 pub record Lasting : Type 0 where
   pub no : VolumeNo
@@ -46,6 +46,10 @@ lasting v = record { no = v .no; owner = v .owner; name = v .name; k = v .k; m =
 abbrev pub lastingOf : List Volume → VolumeNo → Hit Lasting
 lastingOf vs n = mapHit lasting (find (isVolume n) vs)
 
+-- a row of this volume reads the same of both tables
+abbrev pub SameFor : List Volume → List Volume → VolumeNo → Type 0
+SameFor vs ws n = lastingOf ws n ≡ lastingOf vs n
+
 -- volumes whose rows are the same in what lasts
 abbrev isLasting : VolumeNo → Lasting → Bool
 isLasting n x = numbered (n .0) (x .no .0)
@@ -57,7 +61,7 @@ abbrev sameNamed : Lasting → Lasting → Bool
 sameNamed a b = given (a .no .0) && given (b .no .0) && sameBytes (a .owner .0) (b .owner .0) && sameBytes (textBytes (a .name)) (textBytes (b .name))
 
 module _ (vs ws : List Volume) (e : map lasting ws ≡ map lasting vs) where
-  pub lasting-same : (n : VolumeNo) → lastingOf ws n ≡ lastingOf vs n
+  pub lasting-same : (n : VolumeNo) → SameFor vs ws n
   lasting-same n =
       sym (find-mapped lasting (isVolume n) (isLasting n) 0 ws (λ x. refl))
       ∙ ap (firstRow (isLasting n) 0) e
@@ -81,16 +85,18 @@ abbrev bytesIn : ℕ → Hit Lasting → ℕ
 bytesIn size miss = 0
 bytesIn size (hit i x) = shardSize size (x .k)
 
-shard-hit : (vs : List Volume) (e : Entry) (h : Hit Volume) → find (isVolume (e .volume)) vs ≡ h → shardBytes vs e ≡ bytesIn (e .size) (mapHit lasting h)
+shard-hit : (vs : List Volume) (e : Entry) (h : Hit Volume) → find (isVolume (e .volume)) vs ≡ h
+    → shardBytes vs e ≡ bytesIn (e .size) (mapHit lasting h)
 unfolding shardBytes
 shard-hit vs e miss q = rw q
 shard-hit vs e (hit i v) q = rw q
 
-pub bytes-same : (n : RelayNo) (vs ws : List Volume) (e : Entry) → lastingOf ws (e .volume) ≡ lastingOf vs (e .volume) → bytesOn ws n e ≡ bytesOn vs n e
+shard-lasting : (vs : List Volume) (e : Entry) → shardBytes vs e ≡ bytesIn (e .size) (lastingOf vs (e .volume))
+shard-lasting vs e = shard-hit vs e (find (isVolume (e .volume)) vs) refl
+
+pub bytes-same : (n : RelayNo) (vs ws : List Volume) (e : Entry) → SameFor vs ws (e .volume) → bytesOn ws n e ≡ bytesOn vs n e
 unfolding bytesOn
-bytes-same n vs ws e q =
-    let s : shardBytes ws e ≡ shardBytes vs e = shard-hit ws e (find (isVolume (e .volume)) ws) refl ∙ ap (bytesIn (e .size)) q ∙ sym (shard-hit vs e (find (isVolume (e .volume)) vs) refl) in
-    rw s
+bytes-same n vs ws e q = rw (shard-lasting ws e, q, ← (shard-lasting vs e))
 
 -- an entry is as sound in tables that have given as many relay numbers, and in which its volume has what it had of what lasts
 module _ (t u : Tables) (l : u .«last_relay» ≡ t .«last_relay») where
@@ -103,35 +109,34 @@ module _ (t u : Tables) (l : u .«last_relay» ≡ t .«last_relay») where
       let q : lasting v ≡ lasting w = cc in
       rw (ap (λ (x : Lasting). x .k) q, ap (λ (x : Lasting). x .m) q, l)
 
-  pub entry-same : (e : Entry) → lastingOf (u .volumes) (e .volume) ≡ lastingOf (t .volumes) (e .volume) → soundEntry u e ≡ soundEntry t e
+  pub entry-same : (e : Entry) → SameFor (t .volumes) (u .volumes) (e .volume) → soundEntry u e ≡ soundEntry t e
   unfolding soundEntry
   entry-same e q = rw (placed-hit (e .placement) (find (isVolume (e .volume)) (u .volumes)) (find (isVolume (e .volume)) (t .volumes)) q)
 
 -- a row that reads of the volumes what has not changed is as sound as it was
 module _ (t : Tables) (ws : List Volume) where
-  token-same : (k : Token) → lastingOf ws (k .volume) ≡ lastingOf (t .volumes) (k .volume) → soundToken (withVolumes t ws) k ≡ soundToken t k
+  token-same : (k : Token) → SameFor (t .volumes) ws (k .volume) → soundToken (withVolumes t ws) k ≡ soundToken t k
   unfolding soundToken volumeThere parentThere
   token-same k q = rw (found-any lasting (isVolume (k .volume)) ws (t .volumes) q)
 
-  token-agrees : (k : Token) → (usedToken k ≡ true → lastingOf ws (k .volume) ≡ lastingOf (t .volumes) (k .volume))
-      → soundToken (withVolumes t ws) k ≡ soundToken t k
+  token-agrees : (k : Token) → (usedToken k ≡ true → SameFor (t .volumes) ws (k .volume)) → soundToken (withVolumes t ws) k ≡ soundToken t k
   token-agrees k q =
       ⊎-elim (λ w. token-same k (q w)) (λ w. free-token (withVolumes t ws) k w ∙ sym (free-token t k w)) (pass-or-fail (usedToken k))
 
-  relay-same : (r : Relay) → ((j : ℕ) → j < length (t .entries) → lastingOf ws (getD (t .entries) j freshEntry .volume) ≡ lastingOf (t .volumes) (getD (t .entries) j freshEntry .volume))
+  relay-same : (r : Relay) → ((j : ℕ) → j < length (t .entries) → SameFor (t .volumes) ws (getD (t .entries) j freshEntry .volume))
       → soundRelay (withVolumes t ws) r ≡ soundRelay t r
   unfolding soundRelay
   relay-same r q =
-      rw (sum-same (bytesOn ws (r .no)) (bytesOn (t .volumes) (r .no)) (t .entries) (t .entries)
-      (map-agree (bytesOn ws (r .no)) (bytesOn (t .volumes) (r .no)) (t .entries) freshEntry (λ j h. bytes-same (r .no) (t .volumes) ws (getD (t .entries) j freshEntry) (q j h))))
+      rw (sum-agree (bytesOn ws (r .no)) (bytesOn (t .volumes) (r .no)) (t .entries) freshEntry
+      (λ j h. bytes-same (r .no) (t .volumes) ws (getD (t .entries) j freshEntry) (q j h)))
 
 -- the volumes change, and each entry and each token reads of them what it read
 pub record ReadSame (t : Tables) (ws : List Volume) : Type 0 where
   pub numbers : noClash sameVolume ws ≡ true
   pub names : noClash sameName ws ≡ true
-  pub entries : (j : ℕ) → j < length (t .entries) → lastingOf ws (getD (t .entries) j freshEntry .volume) ≡ lastingOf (t .volumes) (getD (t .entries) j freshEntry .volume)
+  pub entries : (j : ℕ) → j < length (t .entries) → SameFor (t .volumes) ws (getD (t .entries) j freshEntry .volume)
   pub tokens : (j : ℕ) → j < length (t .tokens) → usedToken (getD (t .tokens) j freshToken) ≡ true
-      → lastingOf ws (getD (t .tokens) j freshToken .volume) ≡ lastingOf (t .volumes) (getD (t .tokens) j freshToken .volume)
+      → SameFor (t .volumes) ws (getD (t .tokens) j freshToken .volume)
 
 pub volumes-change : (t : Tables) (ws : List Volume) → ReadSame t ws → Rest t → Rest (withVolumes t ws)
 volumes-change t ws s p =
@@ -140,11 +145,18 @@ volumes-change t ws s p =
       counts = p .counts;
       volume-numbers = s .numbers;
       volume-names = s .names;
-      entries = all-same (soundEntry u) (soundEntry t) (t .entries) (t .entries) (map-agree (soundEntry u) (soundEntry t) (t .entries) freshEntry (λ j h. entry-same t u refl (getD (t .entries) j freshEntry) (s .entries j h))) ∙ p .entries;
+      entries =
+          all-agree (soundEntry u) (soundEntry t) (t .entries) freshEntry
+          (λ j h. entry-same t u refl (getD (t .entries) j freshEntry) (s .entries j h))
+          ∙ p .entries;
       entry-paths = p .entry-paths;
-      tokens = all-same (soundToken u) (soundToken t) (t .tokens) (t .tokens) (map-agree (soundToken u) (soundToken t) (t .tokens) freshToken (λ j h. token-agrees t ws (getD (t .tokens) j freshToken) (s .tokens j h))) ∙ p .tokens;
+      tokens =
+          all-agree (soundToken u) (soundToken t) (t .tokens) freshToken (λ j h. token-agrees t ws (getD (t .tokens) j freshToken) (s .tokens j h))
+          ∙ p .tokens;
       token-numbers = p .token-numbers;
-      relays = all-same (soundRelay u) (soundRelay t) (t .relays) (t .relays) (map-agree (soundRelay u) (soundRelay t) (t .relays) freshRelay (λ j h. relay-same t ws (getD (t .relays) j freshRelay) (s .entries))) ∙ p .relays;
+      relays =
+          all-agree (soundRelay u) (soundRelay t) (t .relays) freshRelay (λ j h. relay-same t ws (getD (t .relays) j freshRelay) (s .entries))
+          ∙ p .relays;
       relay-numbers = p .relay-numbers;
     }
 

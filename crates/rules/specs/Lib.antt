@@ -56,6 +56,6 @@ pub mod AdvanceSound
 pub mod Coins
 pub mod LiveLaws
 pub mod AdvanceCoins
-pub mod CoinlessCalls
+pub mod UnmovedCoins
 pub mod CoinLaws
 pub mod Reached

@@ -9,12 +9,21 @@ use borrow.Author.Tests.{not-true}
 use lib.ListN.{length, getD}
 use Rattle.lists.specs.Lists.{Hit, miss, hit, firstRow, find, allOf, anyOf, sumOf, noClash}
 use Rattle.lists.specs.BoolLaws.{and-left, and-right, and-both, or-left, or-right, or-none}
-use Rattle.lists.specs.RowLaws.{sum-same, map-after}
+use Rattle.lists.specs.RowLaws.{map-agree, map-after, sum-same, all-same}
 
 -- what is found, with the row changed
 abbrev pub mapHit : {A B : Type 0} → (A → B) → Hit A → Hit B
 mapHit f miss = miss
 mapHit f (hit i x) = hit i (f x)
+
+-- two functions that agree on every row
+pub all-agree : {A : Type 0} (p q : A → Bool) (l : List A) (d : A) → ((j : ℕ) → j < length l → p (getD l j d) ≡ q (getD l j d))
+    → allOf p l ≡ allOf q l
+all-agree p q l d e = all-same p q l l (map-agree p q l d e)
+
+pub sum-agree : {A : Type 0} (f g : A → ℕ) (l : List A) (d : A) → ((j : ℕ) → j < length l → f (getD l j d) ≡ g (getD l j d))
+    → sumOf f l ≡ sumOf g l
+sum-agree f g l d e = sum-same f g l l (map-agree f g l d e)
 
 -- some row passes where a search finds one
 abbrev isHit : {A : Type 0} → Hit A → Bool
@@ -34,7 +43,10 @@ hit-mapped : {A B : Type 0} (f : A → B) (h : Hit A) → isHit (mapHit f h) ≡
 hit-mapped f miss = refl
 hit-mapped f (hit i x) = refl
 
--- two searches that find the same, as f shows it
+-- two searches that find the same, and the same as f shows it
+pub same-any : {A : Type 0} (p : A → Bool) (l m : List A) → find p l ≡ find p m → anyOf p l ≡ anyOf p m
+same-any p l m e = any-hit p 0 l ∙ ap isHit e ∙ sym (any-hit p 0 m)
+
 pub found-any : {A B : Type 0} (f : A → B) (p : A → Bool) (l m : List A) → mapHit f (find p l) ≡ mapHit f (find p m) → anyOf p l ≡ anyOf p m
 found-any f p l m e =
     any-hit p 0 l ∙ sym (hit-mapped f (find p l)) ∙ ap isHit e ∙ hit-mapped f (find p m) ∙ sym (any-hit p 0 m)
@@ -56,7 +68,8 @@ module _ {A B : Type 0} (f : A → B) where
       (all-mapped p q xs d (λ j k. h (suc j) (omega arith)) (and-right (p x) (allOf p xs) e))
 
   -- no row passes
-  pub none-mapped : (p : A → Bool) (q : B → Bool) (l : List A) → ((x : A) → p x ≡ false → q (f x) ≡ false) → anyOf p l ≡ false → anyOf q (map f l) ≡ false
+  pub none-mapped : (p : A → Bool) (q : B → Bool) (l : List A) → ((x : A) → p x ≡ false → q (f x) ≡ false) → anyOf p l ≡ false
+      → anyOf q (map f l) ≡ false
   unfolding anyOf
   none-mapped p q [] h e = refl
   none-mapped p q (x ∷ xs) h e = or-none (h x (or-left (p x) (anyOf p xs) e)) (none-mapped p q xs h (or-right (p x) (anyOf p xs) e))
@@ -75,7 +88,8 @@ module _ {A B : Type 0} (f : A → B) where
   hit-cond true k x h = refl
   hit-cond false k x h = refl
 
-  pub find-mapped : (p : A → Bool) (q : B → Bool) (k : ℕ) (l : List A) → ((x : A) → q (f x) ≡ p x) → firstRow q k (map f l) ≡ mapHit f (firstRow p k l)
+  pub find-mapped : (p : A → Bool) (q : B → Bool) (k : ℕ) (l : List A) → ((x : A) → q (f x) ≡ p x)
+      → firstRow q k (map f l) ≡ mapHit f (firstRow p k l)
   unfolding firstRow
   find-mapped p q k [] e = refl
   find-mapped p q k (x ∷ xs) e = rw (e x, find-mapped p q (suc k) xs e) (hit-cond (p x) k x (firstRow p (suc k) xs))

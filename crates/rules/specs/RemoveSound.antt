@@ -1,11 +1,11 @@
 -- Remove keeps the tables sound. Assumes nothing.
-use mathlib.Core.Path.{_≡_, refl, sym, _∙_}
-use mathlib.Core.Bool.{Bool, true, false, cond, not}
+use mathlib.Core.Path.{_≡_, refl, _∙_}
+use mathlib.Core.Bool.{cond, not}
 use mathlib.Core.List.{List, map}
 use Prim.Native.Nat.{ℕ, _+_}
 use native.Mathlib.Omega.{arith}
 use lib.Dec.{leb}
-use lib.ListN.{length, set, getD, length-set, length-map}
+use lib.ListN.{set, length-set, length-map}
 use lib.Seq.{map-set-same}
 use Rattle.lists.specs.Lists.{Hit, miss, hit, find, keep}
 use Rattle.lists.specs.SearchLaws.{found-at}
@@ -17,7 +17,7 @@ use Rattle.rules.specs.declared.Volume.{Volume}
 use Rattle.rules.specs.declared.Entry.{Entry}
 use Rattle.rules.specs.declared.Tables.{Tables}
 use Rattle.rules.specs.Limits.{lastVersion}
-use Rattle.rules.specs.Numbers.{BAD, NO-VOLUME, NOT-OWNER, STATE, NO-ENTRY, SPENT}
+use Rattle.rules.specs.Numbers.{BAD, NOT-OWNER, STATE, SPENT}
 use Rattle.rules.specs.Fresh.{freshVolume, freshEntry}
 use Rattle.rules.specs.Tables.{isVolume, isEntry, ownedBy, volumeOf, entryOf, withVolumes, withVersion}
 use Rattle.rules.specs.Relays.{lightened}
@@ -26,7 +26,7 @@ use Rattle.rules.specs.VolumeCalls.{isOpen, dropEntries, removeEntry, re
 use Rattle.rules.specs.Sound.{soundVolume}
 use Rattle.rules.specs.SoundParts.{Parts}
 use Rattle.rules.specs.Shape.{Shape}
-use Rattle.rules.specs.RestParts.{Rest, rest-of, with-volumes}
+use Rattle.rules.specs.RestParts.{rest-of, with-volumes}
 use Rattle.rules.specs.ClearedLaws.{length-cleared}
 use Rattle.rules.specs.LastingLaws.{lasting, lasting-change}
 use Rattle.rules.specs.RoomLaws.{drop-rest}
@@ -45,15 +45,19 @@ module _ (P : Tables → Type 0) (a : Account) (n : VolumeNo) (path : List ℕ) 
   unfolding removeEntry
   entry-case i v e miss = before
   entry-case i v e (hit j x) =
-      cond-case (λ o. P (o .tables)) (leb lastVersion (v .version)) (refused t SPENT) (accepted (v .version + 1) (removed t path i v)) (λ b. before) (λ b. after i v e)
+      cond-case (λ o. P (o .tables)) (leb lastVersion (v .version)) (refused t SPENT) (accepted (v .version + 1) (removed t path i v))
+      (λ b. before) (λ b. after i v e)
 
   volume-case : (h : Hit Volume) → find (isVolume n) (t .volumes) ≡ h → P (removeIn t a path h .tables)
   unfolding removeIn
   volume-case miss e = before
   volume-case (hit i v) e =
       let last = removeEntry t path i v (entryOf (v .no) path t) in
-      cond-case (λ o. P (o .tables)) (not (ownedBy a v)) (refused t NOT-OWNER) (cond (not (isOpen (v .status))) (refused t STATE) last) (λ b. before)
-      (λ b. cond-case (λ o. P (o .tables)) (not (isOpen (v .status))) (refused t STATE) last (λ c. before) (λ c. entry-case i v e (entryOf (v .no) path t)))
+      let stated = cond (not (isOpen (v .status))) (refused t STATE) last in
+      cond-case (λ o. P (o .tables)) (not (ownedBy a v)) (refused t NOT-OWNER) stated (λ b. before)
+      (λ b.
+      cond-case (λ o. P (o .tables)) (not (isOpen (v .status))) (refused t STATE) last (λ c. before)
+      (λ c. entry-case i v e (entryOf (v .no) path t)))
 
   pub remove-cases : P (removeRule a n path t .tables)
   unfolding removeRule volumeOf

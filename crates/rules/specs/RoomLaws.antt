@@ -1,14 +1,14 @@
 -- Room and held shards after entries go: a relay has again what the placements give, and the rest of the tables stays sound. Assumes nothing.
 use mathlib.Core.Path.{_≡_, refl, _∙_}
-use mathlib.Core.Bool.{Bool, true, false, _&&_}
+use mathlib.Core.Bool.{Bool, true, false}
 use mathlib.Core.Logic.{⊎-elim}
-use mathlib.Core.List.{List, map}
+use mathlib.Core.List.{List}
 use Prim.Native.Nat.{ℕ, _+_, _-_}
 use native.Mathlib.Omega.{arith}
 use borrow.Author.Tests.{ltb-true, eqb-true, leb-true, le-leb, eq-eqb}
-use lib.Dec.{eqb, leb}
+use lib.Dec.{eqb}
 use lib.ListN.{getD}
-use Rattle.lists.specs.Lists.{keep, sumOf, noClash}
+use Rattle.lists.specs.Lists.{keep, sumOf}
 use Rattle.lists.specs.BoolLaws.{and-left, and-right, pass-or-fail, not-pass}
 use Rattle.lists.specs.TestLaws.{all-at}
 use Rattle.rules.specs.declared.RelayNo.{RelayNo}
@@ -21,7 +21,7 @@ use Rattle.rules.specs.Tables.{given, numbered, usedRelay, cleared}
 use Rattle.rules.specs.Relays.{bytesOn, shardsOn, lightened}
 use Rattle.rules.specs.VolumeCalls.{dropEntries}
 use Rattle.rules.specs.Sound.{soundEntry, soundToken, soundRelay, volumeThere, parentThere, sameEntry, sameRelayRow}
-use Rattle.rules.specs.RowFacts.{RelayFacts, relay-facts, facts-relay, free-relay, free-entry}
+use Rattle.rules.specs.RowFacts.{relay-facts, facts-relay, free-relay, free-entry}
 use Rattle.rules.specs.RestParts.{Rest}
 use Rattle.rules.specs.MappedLaws.{all-mapped, clash-mapped}
 use Rattle.rules.specs.ClearedLaws.{all-cleared, clash-cleared, sum-cleared}
@@ -89,14 +89,18 @@ module _ (p : Entry → Bool) (t : Tables) where
   unfolding dropEntries soundToken volumeThere parentThere lightened
   drop-rest s =
       let u = dropEntries p t in
+      let lighter = lightened (t .volumes) (keep p (t .entries)) in
       record {
         counts = s .counts;
         volume-numbers = s .volume-numbers;
         volume-names = s .volume-names;
-        entries = all-cleared p freshEntry (soundEntry u) (t .entries) freshEntry (free-entry u freshEntry refl) (λ j h n. entry-same t u refl (getD (t .entries) j freshEntry) refl ∙ all-at (soundEntry t) (t .entries) (s .entries) j h freshEntry);
+        entries =
+            all-cleared p freshEntry (soundEntry u) (t .entries) freshEntry (free-entry u freshEntry refl)
+            (λ j h n.
+            entry-same t u refl (getD (t .entries) j freshEntry) refl ∙ all-at (soundEntry t) (t .entries) (s .entries) j h freshEntry);
         entry-paths = clash-cleared p freshEntry sameEntry (t .entries) fresh-path path-fresh (s .entry-paths);
         tokens = s .tokens;
         token-numbers = s .token-numbers;
-        relays = all-mapped (lightened (t .volumes) (keep p (t .entries))) (soundRelay t) (soundRelay u) (t .relays) freshRelay (λ j h e. relay-lightened _ e) (s .relays);
-        relay-numbers = clash-mapped (lightened (t .volumes) (keep p (t .entries))) sameRelayRow sameRelayRow (t .relays) (λ x y e. e) (s .relay-numbers);
+        relays = all-mapped lighter (soundRelay t) (soundRelay u) (t .relays) freshRelay (λ j h e. relay-lightened _ e) (s .relays);
+        relay-numbers = clash-mapped lighter sameRelayRow sameRelayRow (t .relays) (λ x y e. e) (s .relay-numbers);
       }

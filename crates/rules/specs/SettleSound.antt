@@ -1,15 +1,15 @@
 -- Rents are settled: a volume keeps what lasts, its balance does not rise, and each that is not due for collection after it is sound.
 -- Assumes nothing.
 use mathlib.Core.Path.{_≡_, refl, ap, _∙_}
-use mathlib.Core.Bool.{Bool, true, false, _&&_, _||_, cond}
+use mathlib.Core.Bool.{Bool, true, false, _||_}
 use mathlib.Core.Logic.{⊎-elim}
-use mathlib.Core.List.{List, map}
+use mathlib.Core.List.{map}
 use Prim.Native.Nat.{ℕ, _+_, _-_, _<_}
 use native.Mathlib.Omega.{arith}
 use borrow.Author.Tests.{leb-true, leb-false, le-leb}
-use lib.Dec.{eqb, leb}
+use lib.Dec.{leb}
 use lib.ListN.{length, getD, length-map}
-use Rattle.lists.specs.BoolLaws.{and-left, and-right, and-both, or-left, pass-or-fail}
+use Rattle.lists.specs.BoolLaws.{and-both, or-left, pass-or-fail}
 use Rattle.lists.specs.TestLaws.{all-at}
 use Rattle.lists.specs.RowLaws.{map-after}
 use Rattle.text.specs.Text.{holds, isName}
@@ -17,17 +17,17 @@ use Rattle.rules.specs.declared.Status.{Status}
 use Rattle.rules.specs.declared.Status.the-variants.{Active, Grace, Deleted}
 use Rattle.rules.specs.declared.Volume.{Volume}
 use Rattle.rules.specs.declared.Tables.{Tables}
-use Rattle.rules.specs.Limits.{graceEnd, balanceLimit}
+use Rattle.rules.specs.Limits.{balanceLimit}
 use Rattle.rules.specs.Fresh.{freshVolume}
-use Rattle.rules.specs.Tables.{given, usedVolume, withBalance, withStatus}
+use Rattle.rules.specs.Tables.{given, usedVolume}
 use Rattle.rules.specs.Scope.{capFits}
 use Rattle.rules.specs.Rent.{rentNow}
 use Rattle.rules.specs.Advance.{paidOf, standing, afterRent, settled, settle, graceSpent, isOverdue, isDue}
 use Rattle.rules.specs.Sound.{isGiven, soundStatus, shardsFit, soundVolume}
 use Rattle.rules.specs.SoundParts.{Parts}
 use Rattle.rules.specs.Shape.{Shape}
-use Rattle.rules.specs.RowFacts.{VolumeFacts, volume-facts, facts-volume, free-volume}
-use Rattle.rules.specs.RestParts.{Rest, rest-of}
+use Rattle.rules.specs.RowFacts.{VolumeFacts, volume-facts, facts-volume}
+use Rattle.rules.specs.RestParts.{Rest}
 use Rattle.rules.specs.MappedLaws.{mapped-at}
 use Rattle.rules.specs.LastingLaws.{Lasting, lasting, lasting-change}
 

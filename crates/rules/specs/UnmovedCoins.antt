@@ -1,20 +1,15 @@
 -- The calls that move no coins: every call but advance and deposit leaves the live balances and the sum of deposits as they were. Assumes
 -- nothing.
-use mathlib.Core.Path.{_≡_, refl, ap, sym, _∙_}
+use mathlib.Core.Path.{_≡_, refl}
 use mathlib.Core.Bool.{Bool, true, false, _&&_, cond, not}
-use mathlib.Core.List.{List, map}
+use mathlib.Core.List.{List}
 use Prim.Native.Nat.{ℕ, _+_}
 use native.Mathlib.Omega.{arith}
-use borrow.Author.Tests.{eqb-true}
-use lib.Dec.{eqb, leb, ltb}
-use lib.ListN.{length, getD, set}
-use lib.Seq.{map-set-same}
+use lib.Dec.{leb}
+use lib.ListN.{set}
 use Rattle.amount.specs.declared.Cap.{Cap}
-use Rattle.lists.specs.Lists.{Hit, miss, hit, find, anyOf, keep, sumOf}
-use Rattle.lists.specs.SearchLaws.{found-below, found-at, row-passes}
-use Rattle.lists.specs.SumLaws.{sum-keep}
-use Rattle.lists.specs.RowLaws.{sum-same}
-use Rattle.lists.specs.ModifyLaws.{row-store, sum-modify}
+use Rattle.lists.specs.Lists.{Hit, miss, hit, find, anyOf}
+use Rattle.lists.specs.SearchLaws.{row-passes}
 use Rattle.text.specs.Text.{isName}
 use Rattle.rules.specs.declared.VolumeNo.{VolumeNo}
 use Rattle.rules.specs.declared.Account.{Account}
@@ -32,7 +27,7 @@ use Rattle.rules.specs.declared.Session.{Session}
 use Rattle.rules.specs.declared.Tables.{Tables}
 use Rattle.rules.specs.declared.TablesOutcome.{TablesOutcome}
 use Rattle.rules.specs.declared.SlotOutcome.{SlotOutcome}
-use Rattle.rules.specs.Fresh.{freshVolume, freshToken}
+use Rattle.rules.specs.Fresh.{freshToken}
 use Rattle.rules.specs.Tables.{busy, freeVolume, staged, isVolume, volumeOf, tokenOf, relayOf, withVolumes, withTokens, withRelays, withVersion, withStatus, withBeat, cleared}
 use Rattle.rules.specs.Limits.{lastNumber}
 use Rattle.rules.specs.Numbers.{BAD, SESSION, SPENT, NAME-TAKEN}
