@@ -34,8 +34,9 @@ use Rattle.rules.specs.SetLaws.{all-set}
 use Rattle.rules.specs.NumberLaws.{numbered-used, numbered-eq, found-passes}
 use Rattle.rules.specs.TakeLaws.{all-map}
 use Rattle.rules.specs.PlaceLaws.{fitsRelay}
-use Rattle.rules.specs.LoadLaws.{Staged, putIn, placeIn, entryIn, grown, PlacedAll, placed-all}
-use Rattle.rules.specs.StoreLaws.{stored, replacedBy, Ready, length-stored, store-all, replaced-same, puts-ready}
+use Rattle.rules.specs.LoadLaws.{Staged, putIn, placeIn, entryIn, withShards, PlacedAll, placed-all}
+use Rattle.rules.specs.StoreLaws.{stored, replacedBy, Ready, length-stored}
+use Rattle.rules.specs.PutLaws.{store-all, replaced-same, puts-ready}
 use Rattle.rules.specs.Shape.{Shape}
 use Rattle.rules.specs.Invariant.{Invariant, follows-self, SlotSound, SlotFollows, fresh-slot}
 use Rattle.rules.specs.ChargeLaws.{charge-rest, charge-family}
@@ -62,8 +63,8 @@ module _ (t : Tables) (v : Volume) (ps : List Put) (places : List Placement) (rs
   relays-as =
       let news = entriesOf v (all .pairs) in
       ap (λ (p : Entry → Bool). map (lightened (t .volumes) (keep p (t .entries))) rs) replaced-as
-      ∙ ap (map (lightened (t .volumes) (goneFrom t news))) (all .room)
-      ∙ map-after (lightened (t .volumes) (goneFrom t news)) (grown (t .volumes) news) (relayAfter t news) (t .relays) (λ r. refl)
+      ∙ ap (map (lightened (t .volumes) (goneFrom t news))) (all .shards)
+      ∙ map-after (lightened (t .volumes) (goneFrom t news)) (withShards (t .volumes) news) (relayAfter t news) (t .relays) (λ r. refl)
 
   -- they can be stored
   entries-ready : Parts t → Shape t → given (v .no .0) ≡ true → noClash samePath ps ≡ true → passesRoom t v ps ≡ false
@@ -87,11 +88,11 @@ module _ (t : Tables) (v : Volume) (ps : List Put) (places : List Placement) (rs
       (λ j b h. new-entry t v i found (getD zs j d) h (all-at place zs q j b d)) p
 
   -- the relays that took them fit
-  relays-fit : allOf (λ r. fitsRelay (t .«last_relay») (grown (t .volumes) (entriesOf v (all .pairs)) r)) (t .relays) ≡ true
+  relays-fit : allOf (λ r. fitsRelay (t .«last_relay») (withShards (t .volumes) (entriesOf v (all .pairs)) r)) (t .relays) ≡ true
   relays-fit =
       let fits = fitsRelay (t .«last_relay») in
-      let g = grown (t .volumes) (entriesOf v (all .pairs)) in
-      sym (all-map g fits (λ r. fits (g r)) (t .relays) (λ r. refl)) ∙ ap (allOf fits) (sym (all .room)) ∙ all .fit
+      let g = withShards (t .volumes) (entriesOf v (all .pairs)) in
+      sym (all-map g fits (λ r. fits (g r)) (t .relays) (λ r. refl)) ∙ ap (allOf fits) (sym (all .shards)) ∙ all .fit
 
 -- a commit of a sound session that passed every check
 module _ (t : Tables) (p : Parts t) (shape : Shape t) (s : Session) (sound : soundSession t s ≡ true) (a : Accepted t s) where

@@ -45,7 +45,9 @@ pub mod ApartLaws
 pub mod PlaceLaws
 pub mod LoadLaws
 pub mod OneRowLaws
+pub mod EntryLaws
 pub mod StoreLaws
+pub mod PutLaws
 pub mod ChargeLaws
 pub mod StoredSound
 pub mod CommitCases

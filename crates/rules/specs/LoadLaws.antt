@@ -7,9 +7,9 @@ use Prim.Native.Nat.{ℕ, _+_, _-_}
 use native.Mathlib.Omega.{arith}
 use lib.Dec.{leb}
 use lib.ListN.{getD}
-use borrow.Author.Tests.{leb-true, le-leb}
+use borrow.Author.Tests.{leb-true}
 use Rattle.lists.specs.Lists.{bit, hit, find, allOf, sumOf, noClash}
-use Rattle.lists.specs.BoolLaws.{and-left, and-right, and-both}
+use Rattle.lists.specs.BoolLaws.{and-right, and-both}
 use Rattle.lists.specs.RowLaws.{map-after, clash-map}
 use Rattle.rules.specs.declared.VolumeNo.{VolumeNo}
 use Rattle.rules.specs.declared.RelayNo.{RelayNo}
@@ -21,14 +21,13 @@ use Rattle.rules.specs.declared.Put.{Put}
 use Rattle.rules.specs.declared.Tables.{Tables}
 use Rattle.rules.specs.Limits.{eligibleHealth}
 use Rattle.rules.specs.Fresh.{freshRelay}
-use Rattle.rules.specs.Tables.{given, usedRelay, freeRelay, isVolume, withRoom}
+use Rattle.rules.specs.Tables.{given, usedRelay, isVolume, withRoom}
 use Rattle.rules.specs.Relays.{health, shardSize, isEligible, tooFew, taken, placementOf, holdsShard, loaded, shardBytes, bytesOn, shardsOn}
 use Rattle.rules.specs.Commit.{Placed, noPlace, placed, andPlaced, placeAll, entryFor}
-use Rattle.rules.specs.Sound.{isGiven, soundPlacement, sameRelayRow}
+use Rattle.rules.specs.Sound.{soundPlacement, sameRelayRow}
 use Rattle.rules.specs.BranchLaws.{cond-case}
 use Rattle.rules.specs.MappedLaws.{all-mapped}
-use Rattle.rules.specs.ApartLaws.{other-part, either-part}
-use Rattle.rules.specs.PlaceLaws.{fitsRelay, taken-eligible, placed-on, place-sound}
+use Rattle.rules.specs.PlaceLaws.{fitsRelay, fit-facts, facts-fit, taken-eligible, placed-on, place-sound}
 
 -- a relay keeps its number
 pub loaded-number : (bytes : ℕ) (p : Placement) (r : Relay) → loaded bytes p r .no ≡ r .no
@@ -36,23 +35,20 @@ unfolding loaded
 loaded-number bytes p r =
     cond-case (λ x. x .no ≡ r .no) (holdsShard (r .no) p) (withRoom r (r .used + bytes) (r .held + 1)) r (λ e. refl) (λ e. refl)
 
-pub loaded-apart : (bytes : ℕ) (p : Placement) (rs : List Relay) → noClash sameRelayRow rs ≡ true → noClash sameRelayRow (map (loaded bytes p) rs) ≡ true
+pub loaded-apart : (bytes : ℕ) (p : Placement) (rs : List Relay) → noClash sameRelayRow rs ≡ true
+    → noClash sameRelayRow (map (loaded bytes p) rs) ≡ true
 loaded-apart bytes p rs e =
     sym (clash-map sameRelayRow sameRelayRow (loaded bytes p) rs (λ x y. rw (loaded-number bytes p x, loaded-number bytes p y))) ∙ e
 
 -- a relay that may take a shard has room for it
 eligible-room : (clock bytes last : ℕ) (r : Relay) → isEligible clock bytes r ≡ true → fitsRelay last r ≡ true
     → fitsRelay last (withRoom r (r .used + bytes) (r .held + 1)) ≡ true
-unfolding fitsRelay
 eligible-room clock bytes last r p f =
-    either-part (freeRelay r) (isGiven last (r .no .0) && leb (r .used + bytes) (r .capacity))
-    (λ n.
-    let g = other-part (freeRelay r) (isGiven last (r .no .0) && leb (r .used) (r .capacity)) n f in
     let room = and-right (usedRelay r && leb eligibleHealth (health clock r)) (leb bytes (r .capacity - r .used)) p in
-    let fits = and-right (isGiven last (r .no .0)) (leb (r .used) (r .capacity)) g in
-    and-both (and-left (isGiven last (r .no .0)) (leb (r .used) (r .capacity)) g)
-    (le-leb (r .used + bytes) (r .capacity)
-    (omega (arith, leb-true bytes (r .capacity - r .used) room, leb-true (r .used) (r .capacity) fits))))
+    facts-fit last (withRoom r (r .used + bytes) (r .held + 1))
+    (λ u.
+    let g = fit-facts last r u f in
+    record { numbered = g .numbered; within = omega (arith, leb-true bytes (r .capacity - r .used) room) })
 
 module _ (clock bytes wanted last : ℕ) (rs : List Relay) (fit : allOf (fitsRelay last) rs ≡ true) (apart : noClash sameRelayRow rs ≡ true) where
   abbrev chosen : Placement
@@ -69,25 +65,27 @@ module _ (clock bytes wanted last : ℕ) (rs : List Relay) (fit : allOf (fitsRel
       (λ e. f))
       fit
 
+-- a relay with more bytes and shards
+abbrev pub moreOn : (RelayNo → ℕ) → (RelayNo → ℕ) → Relay → Relay
+moreOn bytes shards r = withRoom r (r .used + bytes (r .no)) (r .held + shards (r .no))
+
 -- a relay with the bytes and the shards that entries have on it
-abbrev pub moreRoom : (RelayNo → ℕ) → (RelayNo → ℕ) → Relay → Relay
-moreRoom bytes shards r = withRoom r (r .used + bytes (r .no)) (r .held + shards (r .no))
+abbrev pub withShards : List Volume → List Entry → Relay → Relay
+withShards vs es r = moreOn (λ n. sumOf (bytesOn vs n) es) (λ n. sumOf (shardsOn n) es) r
 
-abbrev pub grown : List Volume → List Entry → Relay → Relay
-grown vs es r = moreRoom (λ n. sumOf (bytesOn vs n) es) (λ n. sumOf (shardsOn n) es) r
+none-more : (rs : List Relay) → map (moreOn (λ n. 0) (λ n. 0)) rs ≡ rs
+none-more [] = refl
+none-more (r ∷ rs) = ap₂ _∷_ (ap₂ (withRoom r) (omega arith) (omega arith)) (none-more rs)
 
-no-room : (rs : List Relay) (bytes shards : RelayNo → ℕ) → ((n : RelayNo) → bytes n ≡ 0) → ((n : RelayNo) → shards n ≡ 0) → map (moreRoom bytes shards) rs ≡ rs
-no-room [] bytes shards e f = refl
-no-room (r ∷ rs) bytes shards e f =
-    ap₂ _∷_ (ap₂ (withRoom r) (omega (arith, e (r .no))) (omega (arith, f (r .no)))) (no-room rs bytes shards e f)
-
-room-step : (b : Bool) (r : Relay) (bytes : ℕ) (m k : RelayNo → ℕ)
-    → moreRoom m k (cond b (withRoom r (r .used + bytes) (r .held + 1)) r) ≡ withRoom r (r .used + (cond b bytes 0 + m (r .no))) (r .held + (bit b + k (r .no)))
-room-step true r bytes m k = ap₂ (withRoom r) (omega arith) (omega arith)
-room-step false r bytes m k = ap₂ (withRoom r) (omega arith) (omega arith)
+more-step : (b : Bool) (r : Relay) (bytes : ℕ) (m k : RelayNo → ℕ)
+    → moreOn m k (cond b (withRoom r (r .used + bytes) (r .held + 1)) r)
+    ≡ withRoom r (r .used + (cond b bytes 0 + m (r .no))) (r .held + (bit b + k (r .no)))
+more-step true r bytes m k = ap₂ (withRoom r) (omega arith) (omega arith)
+more-step false r bytes m k = ap₂ (withRoom r) (omega arith) (omega arith)
 
 -- the entry of a put: its volume is in the table
-module _ (vs : List Volume) (n : VolumeNo) (i : ℕ) (v : Volume) (g : given (n .0) ≡ true) (found : find (isVolume n) vs ≡ hit i v) (p : Put) (place : Placement) where
+module _ (vs : List Volume) (n : VolumeNo) (i : ℕ) (v : Volume) (g : given (n .0) ≡ true) (found : find (isVolume n) vs ≡ hit i v) (p : Put)
+    (place : Placement) where
   new-bytes : (m : RelayNo) → bytesOn vs m (entryFor n p place) ≡ cond (holdsShard m place) (shardSize (p .size) (v .k)) 0
   unfolding bytesOn shardBytes
   new-bytes m = rw (g, found)
@@ -96,11 +94,11 @@ module _ (vs : List Volume) (n : VolumeNo) (i : ℕ) (v : Volume) (g : given (n 
   unfolding shardsOn
   new-shards m = rw g
 
-  grown-step : (es : List Entry) (r : Relay) → grown vs es (loaded (shardSize (p .size) (v .k)) place r) ≡ grown vs (entryFor n p place ∷ es) r
+  shards-step : (es : List Entry) (r : Relay) → withShards vs es (loaded (shardSize (p .size) (v .k)) place r) ≡ withShards vs (entryFor n p place ∷ es) r
   unfolding loaded sumOf
-  grown-step es r =
+  shards-step es r =
       rw (new-bytes (r .no), new-shards (r .no))
-      (room-step (holdsShard (r .no) place) r (shardSize (p .size) (v .k)) (λ m. sumOf (bytesOn vs m) es) (λ m. sumOf (shardsOn m) es))
+      (more-step (holdsShard (r .no) place) r (shardSize (p .size) (v .k)) (λ m. sumOf (bytesOn vs m) es) (λ m. sumOf (shardsOn m) es))
 
 -- placing one put more
 record MorePlaced (b : Bool) (place : Placement) (rest : Placed) (places : List Placement) (after : List Relay) : Type 0 where
@@ -137,7 +135,7 @@ pub record PlacedAll (t : Tables) (v : Volume) (ps : List Put) (rs : List Relay)
   pub puts : map putIn pairs ≡ ps
   pub placements : map placeIn pairs ≡ places
   pub sound : allOf (soundPlacement t v) places ≡ true
-  pub room : after ≡ map (grown (t .volumes) (map (entryIn (v .no)) pairs)) rs
+  pub shards : after ≡ map (withShards (t .volumes) (map (entryIn (v .no)) pairs)) rs
   pub fit : allOf (fitsRelay (t .«last_relay»)) after ≡ true
 
 module _ (t : Tables) (v : Volume) (i clock : ℕ) (g : given (v .no .0) ≡ true) (found : find (isVolume (v .no)) (t .volumes) ≡ hit i v) where
@@ -153,24 +151,26 @@ module _ (t : Tables) (v : Volume) (i clock : ℕ) (g : given (v .no .0) ≡ tru
         puts = refl;
         placements = w;
         sound = rw (← w) refl;
-        room = sym q ∙ sym (no-room rs (λ n. 0) (λ n. 0) (λ n. refl) (λ n. refl));
+        shards = sym q ∙ sym (none-more rs);
         fit = rw (← q) fit;
       }
   placed-all (p ∷ ps) rs places after fit apart e =
       let bytes = shardSize (p .size) (v .k) in
       let wanted = v .k + v .m in
       let place = placementOf (taken clock bytes wanted rs) in
-      let m = more-placed (tooFew clock bytes wanted rs) place (placeAll clock (v .k) (v .m) ps (map (loaded bytes place) rs)) places after e in
-      let rest = placed-all ps (map (loaded bytes place) rs) (m .others) after (loaded-fit clock bytes wanted (t .«last_relay») rs fit apart) (loaded-apart bytes place rs apart) (m .others-placed) in
+      let next = map (loaded bytes place) rs in
+      let m = more-placed (tooFew clock bytes wanted rs) place (placeAll clock (v .k) (v .m) ps next) places after e in
+      let next-fit = loaded-fit clock bytes wanted (t .«last_relay») rs fit apart in
+      let rest = placed-all ps next (m .others) after next-fit (loaded-apart bytes place rs apart) (m .others-placed) in
       let news = map (entryIn (v .no)) (rest .pairs) in
       record {
         pairs = (p, place) ∷ rest .pairs;
         puts = ap (λ l. p ∷ l) (rest .puts);
         placements = ap (λ l. place ∷ l) (rest .placements) ∙ m .whole;
         sound = rw (← (m .whole)) (and-both (place-sound t v clock bytes rs fit apart (m .enough)) (rest .sound));
-        room =
-            rest .room
-            ∙ map-after (grown (t .volumes) news) (loaded bytes place) (grown (t .volumes) (entryFor (v .no) p place ∷ news)) rs
-            (grown-step (t .volumes) (v .no) i v g found p place news);
+        shards =
+            rest .shards
+            ∙ map-after (withShards (t .volumes) news) (loaded bytes place) (withShards (t .volumes) (entryFor (v .no) p place ∷ news)) rs
+            (shards-step (t .volumes) (v .no) i v g found p place news);
         fit = rest .fit;
       }

@@ -9,7 +9,7 @@ use native.Mathlib.Omega.{arith}
 use lib.Dec.{leb}
 use lib.ListN.{length, take, getD, replicate, length-map}
 use lib.Seq.{length-take-le, take-append-seam}
-use borrow.Author.Tests.{ltb-false, eqb-true, eq-eqb, not-true}
+use borrow.Author.Tests.{ltb-false, leb-true, le-leb, eqb-true, eq-eqb, not-true}
 use Rattle.lists.specs.Lists.{bit, allOf, anyOf, countIf, noClash}
 use Rattle.lists.specs.BoolLaws.{and-left, and-right, and-both, or-left, or-right, or-none, pass-or-fail, not-pass, not-both}
 use Rattle.lists.specs.TestLaws.{all-at, at-all, any-at, clash-at, at-clash}
@@ -26,7 +26,7 @@ use Rattle.rules.specs.Sound.{isGiven, soundPlacement, sameRelayRow}
 use Rattle.rules.specs.BranchLaws.{cond-case}
 use Rattle.rules.specs.TakeLaws.{all-take, clash-take, any-map}
 use Rattle.rules.specs.MappedLaws.{all-mapped}
-use Rattle.rules.specs.ApartLaws.{used-not-free, other-part, numbered-symmetric, one-row}
+use Rattle.rules.specs.ApartLaws.{used-not-free, not-free-used, other-part, either-part, numbered-symmetric, one-row}
 
 -- a row put into its place: the rows are those that were there and the new one
 or-swap : (a b c : Bool) → (a || (b || c)) ≡ (b || (a || c))
@@ -127,11 +127,25 @@ module _ (p : Relay → Bool) where
 unfoldable pub fitsRelay : ℕ → Relay → Bool
 fitsRelay last r = freeRelay r || (isGiven last (r .no .0) && leb (r .used) (r .capacity))
 
-fits-given : (last : ℕ) (r : Relay) → usedRelay r ≡ true → fitsRelay last r ≡ true → isGiven last (r .no .0) ≡ true
+-- what that says of a row in use, and back
+pub record Fits (last : ℕ) (r : Relay) : Type 0 where
+  pub numbered : isGiven last (r .no .0) ≡ true
+  pub within : r .used ≤ r .capacity
+
+pub fit-facts : (last : ℕ) (r : Relay) → usedRelay r ≡ true → fitsRelay last r ≡ true → Fits last r
 unfolding fitsRelay
-fits-given last r u e =
-    and-left (isGiven last (r .no .0)) (leb (r .used) (r .capacity))
-    (other-part (freeRelay r) (isGiven last (r .no .0) && leb (r .used) (r .capacity)) (used-not-free (r .no .0) u) e)
+fit-facts last r u e =
+    let f = other-part (freeRelay r) (isGiven last (r .no .0) && leb (r .used) (r .capacity)) (used-not-free (r .no .0) u) e in
+    record {
+      numbered = and-left (isGiven last (r .no .0)) (leb (r .used) (r .capacity)) f;
+      within = leb-true (r .used) (r .capacity) (and-right (isGiven last (r .no .0)) (leb (r .used) (r .capacity)) f);
+    }
+
+pub facts-fit : (last : ℕ) (r : Relay) → (usedRelay r ≡ true → Fits last r) → fitsRelay last r ≡ true
+unfolding fitsRelay
+facts-fit last r f =
+    either-part (freeRelay r) (isGiven last (r .no .0) && leb (r .used) (r .capacity))
+    (λ n. let g = f (not-free-used (r .no .0) n) in and-both (g .numbered) (le-leb (r .used) (r .capacity) (g .within)))
 
 eligible-used : (clock bytes : ℕ) (r : Relay) → isEligible clock bytes r ≡ true → usedRelay r ≡ true
 eligible-used clock bytes r e =
@@ -163,7 +177,7 @@ module _ (clock bytes wanted : ℕ) (rs : List Relay) where
       let p = isEligible clock bytes in
       all-mapped numberOf (fitsRelay last) (λ n. isGiven last (n .0)) takenRows freshRelay
       (λ a h e.
-      fits-given last (getD takenRows a freshRelay) (eligible-used clock bytes (getD takenRows a freshRelay) (taken-pass a h)) e)
+      fit-facts last (getD takenRows a freshRelay) (eligible-used clock bytes (getD takenRows a freshRelay) (taken-pass a h)) e .numbered)
       (all-take wanted (ranked p rs) (fitsRelay last) (all-ranked p (fitsRelay last) rs fit))
 
   module _ (apart : noClash sameRelayRow rs ≡ true) where
@@ -173,7 +187,8 @@ module _ (clock bytes wanted : ℕ) (rs : List Relay) where
     taken-apart =
         let p = isEligible clock bytes in
         let c : Relay → Relay → Bool = λ a b. sameRelay (a .no) (b .no) in
-        let rows = clash-take wanted (ranked p rs) sameRelayRow freshRelay (clash-ranked p sameRelayRow (λ a b. numbered-symmetric (a .no .0) (b .no .0)) rs apart) in
+        let sy : (a b : Relay) → sameRelayRow a b ≡ sameRelayRow b a = λ a b. numbered-symmetric (a .no .0) (b .no .0) in
+        let rows = clash-take wanted (ranked p rs) sameRelayRow freshRelay (clash-ranked p sameRelayRow sy rs apart) in
         sym (clash-map c sameRelay numberOf takenRows (λ x y. refl))
         ∙ at-clash c takenRows freshRelay
         (λ i j h k.
@@ -201,7 +216,9 @@ module _ (clock bytes wanted : ℕ) (rs : List Relay) where
         let other : Relay → Bool = λ x. not (p x && same x) in
         ⊎-elim (λ t. t)
         (λ n.
-        let o : allOf other rs ≡ true = at-all other rs freshRelay (λ i k. ap not (not-pass (p (getD rs i freshRelay) && same (getD rs i freshRelay)) (λ b. not-both (eligible-row i j k h b) n))) in
+        let o =
+        at-all other rs freshRelay
+        (λ i k. ap not (not-pass (p (getD rs i freshRelay) && same (getD rs i freshRelay)) (λ b. not-both (eligible-row i j k h b) n))) in
         let f = any-at same takenRows freshRelay (sym (any-map numberOf (sameRelay (getD rs j freshRelay .no)) same takenRows (λ x. refl)) ∙ e) in
         let x = getD takenRows (f .0) freshRelay in
         let w = all-at other takenRows (all-take wanted (ranked p rs) other (all-ranked p other rs o)) (f .0) (f .1) freshRelay in
@@ -218,8 +235,8 @@ pub place-sound : (t : Tables) (v : Volume) (clock bytes : ℕ) (rs : List Relay
     → soundPlacement t v (placementOf (taken clock bytes (v .k + v .m) rs)) ≡ true
 unfolding soundPlacement
 place-sound t v clock bytes rs fit apart few =
-    let ns = taken clock bytes (v .k + v .m) rs in
+    let n = v .k + v .m in
+    let ns = taken clock bytes n rs in
     rw (placed-on ns)
-    (and-both
-    (and-both (eq-eqb (length ns) (v .k + v .m) (length-taken clock bytes (v .k + v .m) rs few)) (taken-given clock bytes (v .k + v .m) rs (t .«last_relay») fit))
-    (taken-apart clock bytes (v .k + v .m) rs apart))
+    (and-both (and-both (eq-eqb (length ns) n (length-taken clock bytes n rs few)) (taken-given clock bytes n rs (t .«last_relay») fit))
+    (taken-apart clock bytes n rs apart))

@@ -1,75 +1,30 @@
--- Laws of storeAll: each put is stored in the row of the entry that it replaces, or in a free one. So the paths stay apart, every entry
--- after it is an old one that is not replaced or the entry of a put, and sums change by what went and what came. Assumes nothing.
-use mathlib.Core.Path.{_≡_, refl, ap, sym, _∙_, fun-ext}
-use mathlib.Core.Bool.{Bool, true, false, _&&_, _||_, cond, not}
+-- Laws of entries that are stored one after another, each in the row of the entry that it replaces, or in a free one. So the paths stay
+-- apart, every entry after it is an old one that is not replaced or a new one, and sums change by what went and what came. Assumes nothing.
+use mathlib.Core.Path.{_≡_, refl, ap, sym, _∙_}
+use mathlib.Core.Bool.{Bool, true, false, _||_, cond, not}
 use mathlib.Core.Logic.{_⊎_, inl, inr, ⊎-elim}
-use mathlib.Core.List.{List, [], _∷_, map}
+use mathlib.Core.List.{List, [], _∷_}
 use Prim.Native.Nat.{ℕ, suc, _+_, _<_, _≤_}
 use native.Mathlib.Omega.{arith}
 use lib.Dec.{eqb}
-use lib.ListN.{length, getD, set, length-set, List·getD-map}
+use lib.ListN.{length, getD, set, length-set}
 use lib.Seq.{map-set-same, getD-set-same, getD-set-other}
-use borrow.Author.Tests.{eq-eqb, eqb-true, eqb-false}
+use borrow.Author.Tests.{eqb-true, eqb-false}
 use Rattle.lists.specs.Lists.{bit, Hit, miss, hit, find, allOf, anyOf, countIf, keep, sumOf, noClash}
-use Rattle.lists.specs.Bytes.{sameBytes}
-use Rattle.lists.specs.BoolLaws.{and-left, and-right, and-both, pass-or-fail, not-pass, not-both}
+use Rattle.lists.specs.BoolLaws.{and-left, and-right, pass-or-fail, not-pass}
 use Rattle.lists.specs.SearchLaws.{FoundRow, found-row, some-found, miss-none, row-passes, found-below, found-at}
 use Rattle.lists.specs.TestLaws.{all-at, at-all, none-at, at-none, at-any, clash-at}
 use Rattle.lists.specs.SumLaws.{sum-keep}
-use Rattle.lists.specs.RowLaws.{map-agree, map-after, any-same, count-same, clash-map}
-use Rattle.lists.specs.ByteLaws.{same-eq, same-self, same-symmetric}
-use Rattle.text.specs.Text.{textBytes}
-use Rattle.rules.specs.declared.VolumeNo.{VolumeNo}
+use Rattle.lists.specs.RowLaws.{map-agree, any-same, count-same}
 use Rattle.rules.specs.declared.Entry.{Entry}
-use Rattle.rules.specs.Fresh.{freshEntry, freshPut, freshPlacement}
-use Rattle.rules.specs.Tables.{given, numbered, usedEntry, freeEntry, inVolume, isEntry, isPut}
-use Rattle.rules.specs.Commit.{isReplaced, isNewPath, storeNew, storeAt, storeAll}
-use Rattle.rules.specs.Sound.{sameEntry, samePath}
+use Rattle.rules.specs.Fresh.{freshEntry}
+use Rattle.rules.specs.Tables.{given, usedEntry, freeEntry}
+use Rattle.rules.specs.Commit.{storeNew, storeAt}
+use Rattle.rules.specs.Sound.{sameEntry}
 use Rattle.rules.specs.BranchLaws.{cond-case}
-use Rattle.rules.specs.TakeLaws.{any-map, any-and}
-use Rattle.rules.specs.NumberLaws.{numbered-eq}
-use Rattle.rules.specs.ApartLaws.{either-part, free-used, free-not-used, numbered-given, numbered-symmetric, clash-one}
+use Rattle.rules.specs.ApartLaws.{either-part, free-used, free-not-used, clash-one}
 use Rattle.rules.specs.OneRowLaws.{sum-but-one, not-all-count, sum-set, count-set, clash-store}
-use Rattle.rules.specs.LoadLaws.{Staged, putIn, placeIn, entryIn}
-
--- entries of one volume and path
-module _ (a b : Entry) where
-  pub same-entry-symmetric : sameEntry a b ≡ sameEntry b a
-  unfolding sameEntry
-  same-entry-symmetric = rw (numbered-symmetric (a .volume .0) (b .volume .0), same-symmetric (textBytes (a .path)) (textBytes (b .path)))
-
-  module _ (e : sameEntry a b ≡ true) where
-    same-entry-number : b .volume .0 ≡ a .volume .0
-    unfolding sameEntry
-    same-entry-number =
-        numbered-eq (a .volume .0) (b .volume .0)
-        (and-left (numbered (a .volume .0) (b .volume .0)) (sameBytes (textBytes (a .path)) (textBytes (b .path))) e)
-
-    same-entry-path : textBytes (a .path) ≡ textBytes (b .path)
-    unfolding sameEntry
-    same-entry-path =
-        same-eq (textBytes (a .path)) (textBytes (b .path))
-        (and-right (numbered (a .volume .0) (b .volume .0)) (sameBytes (textBytes (a .path)) (textBytes (b .path))) e)
-
-    same-entry-used : usedEntry a ≡ true
-    unfolding sameEntry
-    same-entry-used =
-        numbered-given (a .volume .0) (b .volume .0)
-        (and-left (numbered (a .volume .0) (b .volume .0)) (sameBytes (textBytes (a .path)) (textBytes (b .path))) e)
-
-    -- they clash with the same entries
-    same-entry-reads : (c : Entry) → sameEntry b c ≡ sameEntry a c
-    unfolding sameEntry
-    same-entry-reads c = rw (same-entry-number, same-entry-path)
-
-  -- a free row clashes with none
-  free-apart : freeEntry b ≡ true → sameEntry a b ≡ false
-  free-apart f =
-      not-pass (sameEntry a b) (λ e. not-both (same-entry-used e) (ap given (sym (same-entry-number e)) ∙ free-not-used (b .volume .0) f))
-
-same-entry-self : (a : Entry) → usedEntry a ≡ true → sameEntry a a ≡ true
-unfolding sameEntry
-same-entry-self a u = and-both (and-both u (eq-eqb (a .volume .0) (a .volume .0) refl)) (same-self (textBytes (a .path)))
+use Rattle.rules.specs.EntryLaws.{same-entry-symmetric, same-entry-number, same-entry-reads, free-apart}
 
 -- an entry stored: in the row of the entry that it replaces, or in a free one
 unfoldable pub storeOne : Entry → List Entry → List Entry
@@ -196,7 +151,10 @@ module _ (e : Entry) (news es after : List Entry) (ready : Ready (e ∷ news) es
   row-taken =
       ⊎-elim
       (λ f.
-      let none : anyOf (sameEntry e) es ≡ false = at-none (sameEntry e) es freshEntry (λ j h. ⊎-elim (λ q. rw (eqb-true j (s .row) q) (free-apart e gone f)) (λ q. s .others j h (eqb-false j (s .row) q)) (pass-or-fail (eqb j (s .row)))) in
+      let none =
+      at-none (sameEntry e) es freshEntry
+      (λ j h.
+      ⊎-elim (λ q. rw (eqb-true j (s .row) q) (free-apart e gone f)) (λ q. s .others j h (eqb-false j (s .row) q)) (pass-or-fail (eqb j (s .row)))) in
       rw (free-not-used (gone .volume .0) f, none))
       (λ f.
       let u : usedEntry gone ≡ true = ap given (same-entry-number e gone f) ∙ used-e in
@@ -213,8 +171,9 @@ module _ (e : Entry) (news es after : List Entry) (ready : Ready (e ∷ news) es
   still-room : countIf usedEntry after + countIf (isNew after) news ≤ length after
   unfolding countIf
   still-room =
-      let c : countIf usedEntry after + bit (usedEntry gone) ≡ countIf usedEntry es + 1 = rw (s .set-to) (rw used-e at (count-set es (s .row) e freshEntry usedEntry (s .below))) in
-      let n : countIf (isNew after) news ≡ countIf (isNew es) news = count-same (isNew after) (isNew es) news news (map-agree (isNew after) (isNew es) news freshEntry new-same) in
+      let c : countIf usedEntry after + bit (usedEntry gone) ≡ countIf usedEntry es + 1 =
+      rw (s .set-to) (rw used-e at (count-set es (s .row) e freshEntry usedEntry (s .below))) in
+      let n = count-same (isNew after) (isNew es) news news (map-agree (isNew after) (isNew es) news freshEntry new-same) in
       let l : length after ≡ length es = rw (s .set-to) (length-set es (s .row) e) in
       let r : countIf usedEntry es + (bit (isNew es e) + countIf (isNew es) news) ≤ length es = ready .room in
       let w = row-taken in
@@ -247,8 +206,10 @@ module _ (e : Entry) (news es after : List Entry) (ready : Ready (e ∷ news) es
     sum-step : sumOf f after + sumOf (lost (e ∷ news)) es ≡ sumOf f es + f e + sumOf (lost news) after
     sum-step =
         let a : sumOf f after + f gone ≡ sumOf f es + f e = rw (s .set-to) (sum-set es (s .row) e freshEntry f (s .below)) in
-        let b : sumOf (lost news) after + 0 ≡ sumOf (lost news) es + 0 = rw (s .set-to) (rw (kept-e, kept-gone) at (sum-set es (s .row) e freshEntry (lost news) (s .below))) in
-        let c : sumOf (lost (e ∷ news)) es + 0 ≡ sumOf (lost news) es + f gone = rw (kept-gone, lost-gone) at (sum-but-one (lost (e ∷ news)) (lost news) es (s .row) freshEntry (s .below) lost-other) in
+        let b : sumOf (lost news) after + 0 ≡ sumOf (lost news) es + 0 =
+        rw (s .set-to) (rw (kept-e, kept-gone) at (sum-set es (s .row) e freshEntry (lost news) (s .below))) in
+        let c : sumOf (lost (e ∷ news)) es + 0 ≡ sumOf (lost news) es + f gone =
+        rw (kept-gone, lost-gone) at (sum-but-one (lost (e ∷ news)) (lost news) es (s .row) freshEntry (s .below) lost-other) in
         omega arith
 
   -- a test that the new one and the old ones that stay pass
@@ -326,57 +287,3 @@ module _ (f : Entry → ℕ) (zero-free : (x : Entry) → freeEntry x ≡ true �
   pub stored-sum : (news es : List Entry) → Ready news es → sumOf f (stored news es) + sumOf f (keep (replacedBy news) es) ≡ sumOf f es + sumOf f news
   stored-sum news es ready =
       rw (sum-keep f (λ x. cond (replacedBy news x) (f x) 0) (replacedBy news) es (λ x. refl)) (sum-lost news es ready)
-
--- the puts of a commit are stored as their entries
-module _ (n : VolumeNo) where
-  path-test : (z : Staged) → isEntry n (textBytes (z .0 .path)) ≡ sameEntry (entryIn n z)
-  unfolding isEntry sameEntry
-  path-test z =
-      fun-ext (λ x. ap (λ (b : Bool). numbered (n .0) (x .volume .0) && b) (same-symmetric (textBytes (x .path)) (textBytes (z .0 .path))))
-
-  pub store-all : (zs : List Staged) (es : List Entry) → storeAll n (map putIn zs) (map placeIn zs) es ≡ stored (map (entryIn n) zs) es
-  unfolding storeAll stored storeOne
-  store-all [] es = refl
-  store-all (z ∷ zs) es =
-      rw (path-test z) (store-all zs (storeAt es (entryIn n z) (find (sameEntry (entryIn n z)) es)))
-
-  replaced-row : (zs : List Staged) (x : Entry) → isReplaced n (map putIn zs) x ≡ replacedBy (map (entryIn n) zs) x
-  unfolding isReplaced replacedBy isPut sameEntry
-  replaced-row zs x =
-      let path = textBytes (x .path) in
-      let p : Staged → Bool = λ z. sameBytes (textBytes (z .0 .path)) path in
-      ap (λ (b : Bool). inVolume n x && b) (any-map putIn (isPut path) p zs (λ z. refl))
-      ∙ sym (any-and (inVolume n x) p zs)
-      ∙ sym (any-map (entryIn n) (λ e. sameEntry e x) (λ z. inVolume n x && p z) zs (λ z. refl))
-
-  pub replaced-same : (zs : List Staged) → isReplaced n (map putIn zs) ≡ replacedBy (map (entryIn n) zs)
-  replaced-same zs = fun-ext (replaced-row zs)
-
-  new-count : (zs : List Staged) (es : List Entry) → countIf (isNewPath n es) (map putIn zs) ≡ countIf (isNew es) (map (entryIn n) zs)
-  unfolding isNewPath isNew
-  new-count zs es =
-      let q : Staged → Bool = λ z. isNew es (entryIn n z) in
-      count-same (isNewPath n es) (isNew es) (map putIn zs) (map (entryIn n) zs)
-      (map-after (isNewPath n es) putIn q zs (λ z. rw (path-test z)) ∙ sym (map-after (isNew es) (entryIn n) q zs (λ z. refl)))
-
-  module _ (g : given (n .0) ≡ true) (zs : List Staged) (es : List Entry) where
-    new-apart : noClash samePath (map putIn zs) ≡ true → noClash sameEntry (map (entryIn n) zs) ≡ true
-    unfolding samePath sameEntry
-    new-apart e =
-        let c : Staged → Staged → Bool = λ x y. samePath (x .0) (y .0) in
-        let one : numbered (n .0) (n .0) ≡ true = and-both g (eq-eqb (n .0) (n .0) refl) in
-        sym (clash-map c sameEntry (entryIn n) zs (λ x y. ap (λ (b : Bool). b && c x y) (sym one))) ∙ clash-map c samePath putIn zs (λ x y. refl) ∙ e
-
-    new-used : allOf usedEntry (map (entryIn n) zs) ≡ true
-    new-used = at-all usedEntry (map (entryIn n) zs) (entryIn n (freshPut, freshPlacement)) (λ j h. rw (List·getD-map (entryIn n) zs j (freshPut, freshPlacement)) g)
-
-    -- a session's puts can be stored where the rows suffice
-    pub puts-ready : noClash sameEntry es ≡ true → noClash samePath (map putIn zs) ≡ true
-        → countIf usedEntry es + countIf (isNewPath n es) (map putIn zs) ≤ length es → Ready (map (entryIn n) zs) es
-    puts-ready apart paths room =
-        record {
-          apart = apart;
-          new-apart = new-apart paths;
-          new-used = new-used;
-          room = rw (new-count zs es) at room;
-        }
