@@ -1,6 +1,7 @@
 -- Every call on a sound desk leaves a sound one, and so does every list of calls. Beside the test of the desk the theorem carries that each
 -- table has its rows, that each slot has its places, and that each token is of its parent's volume (OneVolumeNeeded shows a desk that passes
--- the test, lacks the last, and fails the test after a delete). Assumes nothing.
+-- the test, lacks the last, and fails the test after a delete). What advance, remove and commit keep is taken as given here: Reached supplies
+-- it.
 use mathlib.Core.Path.{_≡_, _∙_}
 use mathlib.Core.Bool.{Bool, true}
 use mathlib.Core.List.{List, [], _∷_}
