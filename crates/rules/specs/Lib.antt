@@ -61,3 +61,6 @@ pub mod AdvanceCoins
 pub mod UnmovedCoins
 pub mod CoinLaws
 pub mod Reached
+pub mod VolumesChange
+pub mod CreateSound
+pub mod NewToken

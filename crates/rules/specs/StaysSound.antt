@@ -35,7 +35,8 @@ use Rattle.rules.specs.SetLaws.{all-set}
 use Rattle.rules.specs.BranchLaws.{cond-case}
 use Rattle.rules.specs.RowsKept.{session-grown}
 use Rattle.rules.specs.Invariant.{Invariant, Follows, whole-of, follows, SlotSound, SlotFollows, slot-follows}
-use Rattle.rules.specs.VolumeSound.{create-keeps, deposit-keeps, delete-keeps, undelete-keeps}
+use Rattle.rules.specs.CreateSound.{create-keeps}
+use Rattle.rules.specs.VolumeSound.{deposit-keeps, delete-keeps, undelete-keeps}
 use Rattle.rules.specs.TokenSound.{grant-keeps, attenuate-keeps, revoke-keeps, look-keeps}
 use Rattle.rules.specs.RelaySound.{register-keeps, heartbeat-keeps}
 use Rattle.rules.specs.SessionSound.{open-keeps, stage-keeps, abandon-keeps}
