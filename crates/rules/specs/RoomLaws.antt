@@ -3,7 +3,7 @@ use mathlib.Core.Path.{_≡_, refl, _∙_}
 use mathlib.Core.Bool.{Bool, true, false}
 use mathlib.Core.Logic.{⊎-elim}
 use mathlib.Core.List.{List}
-use Prim.Native.Nat.{ℕ, _+_, _-_}
+use Prim.Native.Nat.{ℕ}
 use native.Mathlib.Omega.{arith}
 use borrow.Author.Tests.{ltb-true, eqb-true, leb-true, le-leb, eq-eqb}
 use lib.Dec.{eqb}
@@ -51,37 +51,32 @@ path-fresh : (e : Entry) → sameEntry e freshEntry ≡ false
 unfolding sameEntry
 path-fresh e = rw (no-zero (e .volume .0))
 
--- what is left of a sum when a part of it goes
-left-of : (a b whole used : ℕ) → a + b ≡ whole → used ≡ whole → used - b ≡ a
-left-of a b whole used e f = omega arith
-
 module _ (p : Entry → Bool) (t : Tables) where
   -- each relay gives back exactly what the entries that go had on it
   pub relay-lightened : (r : Relay) → soundRelay t r ≡ true → soundRelay (dropEntries p t) (lightened (t .volumes) (keep p (t .entries)) r) ≡ true
   unfolding dropEntries lightened
-  relay-lightened r h = ⊎-elim used (free-relay (dropEntries p t) (lightened (t .volumes) (keep p (t .entries)) r)) (pass-or-fail (usedRelay r))
+  relay-lightened r h = ⊎-elim used (free-relay (dropEntries p t) left) (pass-or-fail (usedRelay r))
     where
-      used : usedRelay r ≡ true → soundRelay (dropEntries p t) (lightened (t .volumes) (keep p (t .entries)) r) ≡ true
+      left : Relay
+      left = lightened (t .volumes) (keep p (t .entries)) r
+
+      used : usedRelay r ≡ true → soundRelay (dropEntries p t) left ≡ true
       used w =
           let f = relay-facts t r w h in
           let bytes = bytesOn (t .volumes) (r .no) in
           let shards = shardsOn (r .no) in
-          facts-relay (dropEntries p t) (lightened (t .volumes) (keep p (t .entries)) r)
+          let usedAll = eqb-true (r .used) (sumOf bytes (t .entries)) (f .used) in
+          let heldAll = eqb-true (r .held) (sumOf shards (t .entries)) (f .held) in
+          let usedLeft = sum-cleared p freshEntry bytes (t .entries) (fresh-bytes (t .volumes) (r .no)) in
+          let heldLeft = sum-cleared p freshEntry shards (t .entries) (fresh-shards (r .no)) in
+          facts-relay (dropEntries p t) left
           (record {
             numbered = f .numbered;
             capacity = f .capacity;
-            fits = le-leb (r .used - sumOf bytes (keep p (t .entries))) (r .capacity) (omega (arith, leb-true (r .used) (r .capacity) (f .fits)));
+            fits = le-leb (left .used) (r .capacity) (omega (arith, leb-true (r .used) (r .capacity) (f .fits)));
             beat = f .beat;
-            used =
-                eq-eqb (r .used - sumOf bytes (keep p (t .entries))) (sumOf bytes (cleared p freshEntry (t .entries)))
-                (left-of (sumOf bytes (cleared p freshEntry (t .entries))) (sumOf bytes (keep p (t .entries))) (sumOf bytes (t .entries)) (r .used)
-                (sum-cleared p freshEntry bytes (t .entries) (fresh-bytes (t .volumes) (r .no)))
-                (eqb-true (r .used) (sumOf bytes (t .entries)) (f .used)));
-            held =
-                eq-eqb (r .held - sumOf shards (keep p (t .entries))) (sumOf shards (cleared p freshEntry (t .entries)))
-                (left-of (sumOf shards (cleared p freshEntry (t .entries))) (sumOf shards (keep p (t .entries))) (sumOf shards (t .entries)) (r .held)
-                (sum-cleared p freshEntry shards (t .entries) (fresh-shards (r .no)))
-                (eqb-true (r .held) (sumOf shards (t .entries)) (f .held)));
+            used = eq-eqb (left .used) (sumOf bytes (cleared p freshEntry (t .entries))) (omega arith);
+            held = eq-eqb (left .held) (sumOf shards (cleared p freshEntry (t .entries))) (omega arith);
           })
 
   -- entries go, and the rest of the tables stays sound

@@ -4,7 +4,7 @@ use mathlib.Core.Path.{_≡_, refl, ap, _∙_}
 use mathlib.Core.Bool.{Bool, true, false, _||_}
 use mathlib.Core.Logic.{⊎-elim}
 use mathlib.Core.List.{map}
-use Prim.Native.Nat.{ℕ, _+_, _-_, _<_}
+use Prim.Native.Nat.{ℕ, _+_, _<_}
 use native.Mathlib.Omega.{arith}
 use borrow.Author.Tests.{leb-true, leb-false, le-leb}
 use lib.Dec.{leb}
@@ -22,7 +22,7 @@ use Rattle.rules.specs.Fresh.{freshVolume}
 use Rattle.rules.specs.Tables.{given, usedVolume}
 use Rattle.rules.specs.Scope.{capFits}
 use Rattle.rules.specs.Rent.{rentNow}
-use Rattle.rules.specs.Advance.{paidOf, standing, afterRent, settled, settle, graceSpent, isOverdue, isDue}
+use Rattle.rules.specs.Advance.{standing, afterRent, settled, settle, graceSpent, isOverdue, isDue}
 use Rattle.rules.specs.Sound.{isGiven, soundStatus, shardsFit, soundVolume}
 use Rattle.rules.specs.SoundParts.{Parts}
 use Rattle.rules.specs.Shape.{Shape}
@@ -95,7 +95,7 @@ module _ (t : Tables) where
       let u : usedVolume (afterRent rent v) ≡ true = ap (λ (x : Lasting). given (x .no .0)) (after-lasting rent v) ∙ w in
       facts-volume t (afterRent rent v)
       (facts-lasting t v (afterRent rent v) (after-lasting rent v) f
-      (le-leb (v .balance - paidOf (v .status) rent (v .balance)) balanceLimit (omega (arith, leb-true (v .balance) balanceLimit (f .balance))))
+      (le-leb (afterRent rent v .balance) balanceLimit (omega (arith, leb-true (v .balance) balanceLimit (f .balance))))
       (standing-status (t .clock) (v .status) (leb rent (v .balance)) v refl (f .status) (not-due (t .clock) (afterRent rent v) u d)))
 
   -- a volume at an epoch end is sound where it is not collected
