@@ -18,6 +18,29 @@ use Rattle.rules.specs.Family.{FamilyInOneVolume}
 use Rattle.rules.specs.RowFacts.{idle-session}
 use Rattle.rules.specs.RowsKept.{Grown, grown-self, volume-grown, entry-grown, token-stays, relay-grown}
 
+-- the tables pass their test and have their rows
+pub record Whole (t : Tables) : Type 0 where
+  pub parts : Parts t
+  pub shape : Shape t
+
+-- the tables u are whole, the counts have grown, and families are in one volume where they were
+pub record Keeps (t u : Tables) : Type 0 where
+  pub whole : Whole u
+  pub grown : Grown t u
+  pub family : FamilyInOneVolume t → FamilyInOneVolume u
+
+-- a refusal leaves the tables as they were
+pub keeps-self : {t : Tables} → Whole t → Keeps t t
+keeps-self {t} w = record { whole = w; grown = grown-self t; family = λ f. f }
+
+-- one change after another
+pub keeps-on : {t u w : Tables} → Keeps t u → Keeps u w → Keeps t w
+keeps-on f g =
+    let a = f .grown in
+    let b = g .grown in
+    record { whole = g .whole; grown = omega arith; family = λ h. g .family (f .family h) }
+
+-- all that holds of the tables of a reached desk
 pub record Invariant (t : Tables) : Type 0 where
   pub parts : Parts t
   pub shape : Shape t
@@ -28,13 +51,18 @@ pub record Follows (t u : Tables) : Type 0 where
   pub invariant : Invariant u
   pub grown : Grown t u
 
--- a refusal leaves the tables as they were
 pub follows-self : {t : Tables} → Invariant t → Follows t t
 follows-self {t} i = record { invariant = i; grown = grown-self t }
 
--- one change after another
-pub follows-on : {t u w : Tables} → Follows t u → Follows u w → Follows t w
-follows-on f g = let a = f .grown in let b = g .grown in record { invariant = g .invariant; grown = omega arith }
+-- what keeps the tables whole keeps the invariant
+pub whole-of : {t : Tables} → Invariant t → Whole t
+whole-of i = record { parts = i .parts; shape = i .shape }
+
+pub follows : {t u : Tables} → Invariant t → Keeps t u → Follows t u
+follows i k = record {
+  invariant = record { parts = k .whole .parts; shape = k .whole .shape; family = k .family (i .family) };
+  grown = k .grown;
+}
 
 -- the tables with other counts: the clock, the last numbers of volumes, tokens and relays, and the deposits
 abbrev pub withCounts : Tables → ℕ → ℕ → ℕ → ℕ → ℕ → Tables
@@ -52,21 +80,21 @@ withCounts t c v k r d = record {
 }
 
 -- counts within their limits that grow
-pub counts-grow : (t : Tables) (c v k r d : ℕ) → Invariant t → Grown t (withCounts t c v k r d) → soundCounts (withCounts t c v k r d) ≡ true
-    → Follows t (withCounts t c v k r d)
+pub counts-grow : (t : Tables) (c v k r d : ℕ) → Whole t → Grown t (withCounts t c v k r d) → soundCounts (withCounts t c v k r d) ≡ true
+    → Keeps t (withCounts t c v k r d)
 counts-grow t c v k r d i g s =
     let u = withCounts t c v k r d in
     let p = i .parts in
     record {
       grown = g;
-      invariant = record {
+      family = λ f. f;
+      whole = record {
         shape = record {
           volume-rows = i .shape .volume-rows;
           entry-rows = i .shape .entry-rows;
           token-rows = i .shape .token-rows;
           relay-rows = i .shape .relay-rows;
         };
-        family = i .family;
         parts = record {
           counts = s;
           volumes = all-weaker (soundVolume t) (soundVolume u) (t .volumes) (volume-grown t u g) (p .volumes);
@@ -91,6 +119,14 @@ pub record SlotSound (t : Tables) (s : Session) : Type 0 where
 pub record SlotFollows (t : Tables) (o : SlotOutcome) : Type 0 where
   pub tables : Follows t (o .tables)
   pub slot : SlotSound (o .tables) (o .session)
+
+-- a call on a slot leaves the tables as they are, and a sound slot
+pub record SlotKeeps (t : Tables) (o : SlotOutcome) : Type 0 where
+  pub same : o .tables ≡ t
+  pub slot : SlotSound t (o .session)
+
+pub slot-follows : (t : Tables) (o : SlotOutcome) → Invariant t → SlotKeeps t o → SlotFollows t o
+slot-follows t o i k = record { tables = rw (k .same) (follows-self i); slot = rw (k .same) (k .slot) }
 
 -- a freed slot
 pub fresh-slot : (t : Tables) → SlotSound t freshSession

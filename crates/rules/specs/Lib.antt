@@ -32,7 +32,7 @@ pub mod RoomLaws
 pub mod TokensGo
 pub mod RemoveSound
 pub mod HeldText
-pub mod TokensFollow
+pub mod TokensChange
 pub mod VolumeSound
 pub mod ChainLaws
 pub mod TokenSound
@@ -61,3 +61,6 @@ pub mod AdvanceCoins
 pub mod UnmovedCoins
 pub mod CoinLaws
 pub mod Reached
+pub mod VolumesChange
+pub mod CreateSound
+pub mod NewToken

@@ -33,7 +33,7 @@ use Rattle.rules.specs.BranchLaws.{cond-case}
 use Rattle.rules.specs.NumberLaws.{numbered-used, found-passes, same-number, new-number}
 use Rattle.rules.specs.RowFacts.{entry-facts, relay-facts, facts-relay, count-facts, facts-counts}
 use Rattle.rules.specs.RowsKept.{Grown, given-le, le-given, volume-grown, entry-grown, relay-grown, token-stays}
-use Rattle.rules.specs.Invariant.{Invariant, Follows, follows-self, follows-on, counts-grow}
+use Rattle.rules.specs.Invariant.{Whole, Keeps, keeps-self, keeps-on, counts-grow}
 
 -- no sound entry has a shard on a relay whose number was not given
 module _ (t : Tables) (n : RelayNo) (new : t .«last_relay» < n .0) where
@@ -74,16 +74,16 @@ module _ (t : Tables) (n : RelayNo) (new : t .«last_relay» < n .0) where
       omega arith
 
 -- relays change: each is sound, and no two have one number
-relays-change : (t : Tables) (rs : List Relay) → Invariant t → length rs ≡ length (t .relays) → allOf (soundRelay t) rs ≡ true
-    → noClash sameRelayRow rs ≡ true → Follows t (withRelays t rs)
+relays-change : (t : Tables) (rs : List Relay) → Whole t → length rs ≡ length (t .relays) → allOf (soundRelay t) rs ≡ true
+    → noClash sameRelayRow rs ≡ true → Keeps t (withRelays t rs)
 relays-change t rs i l a c =
     let u = withRelays t rs in
     let g : Grown t u = omega arith in
     let p = i .parts in
     record {
       grown = g;
-      invariant = record {
-        family = i .family;
+      family = λ f. f;
+      whole = record {
         shape = record {
           volume-rows = i .shape .volume-rows;
           entry-rows = i .shape .entry-rows;
@@ -111,7 +111,7 @@ relay-le t r h =
     ⊎-elim (λ u. given-le (t .«last_relay») (r .no .0) (relay-facts t r u h .numbered)) (λ u. omega (arith, ltb-false 0 (r .no .0) u))
     (pass-or-fail (usedRelay r))
 
-module _ (t : Tables) (inv : Invariant t) where
+module _ (t : Tables) (inv : Whole t) where
   -- a new relay, in the place of any row
   module _ (capacity : ℕ) (fits : capacity ≤ capacityLimit) (room : t .«last_relay» < lastNumber) (i : ℕ) where
     abbrev n : ℕ
@@ -124,7 +124,7 @@ module _ (t : Tables) (inv : Invariant t) where
     abbrev u : Tables
     u = withLastRelay t n
 
-    given-first : Follows t u
+    given-first : Keeps t u
     given-first =
         let f = count-facts t (inv .parts .counts) in
         counts-grow t (t .clock) (t .«last_volume») (t .«last_token») n (t .deposits) inv (omega arith)
@@ -144,11 +144,11 @@ module _ (t : Tables) (inv : Invariant t) where
           held = eq-eqb 0 (sumOf (shardsOn (r .no)) (t .entries)) (sym (no-shards t (r .no) (omega arith) e));
         })
 
-    register-new : Follows t (withRelays u (set (t .relays) i r))
+    register-new : Keeps t (withRelays u (set (t .relays) i r))
     register-new =
-        follows-on given-first
-        (relays-change u (set (t .relays) i r) (given-first .invariant) (length-set (t .relays) i r)
-        (all-set (soundRelay u) (t .relays) i r (given-first .invariant .parts .relays) new-sound)
+        keeps-on given-first
+        (relays-change u (set (t .relays) i r) (given-first .whole) (length-set (t .relays) i r)
+        (all-set (soundRelay u) (t .relays) i r (given-first .whole .parts .relays) new-sound)
         (new-number (λ x. x .no .0) (t .relays) i r (inv .parts .relay-numbers)
         (λ j k. omega (arith, relay-le t (getD (t .relays) j r) (all-at (soundRelay t) (t .relays) (inv .parts .relays) j k r)))))
 
@@ -172,36 +172,36 @@ module _ (t : Tables) (inv : Invariant t) where
           held = f .held;
         })
 
-    beat-follows : Follows t (withRelays t (set (t .relays) i beating))
+    beat-keeps : Keeps t (withRelays t (set (t .relays) i beating))
     unfolding relayOf
-    beat-follows =
+    beat-keeps =
         relays-change t (set (t .relays) i beating) inv (length-set (t .relays) i beating)
         (all-set (soundRelay t) (t .relays) i beating (inv .parts .relays) beat-sound)
         (same-number (λ x. x .no .0) (t .relays) i beating freshRelay (ap (λ (x : Relay). x .no .0) (sym (found-at (isRelay n) (t .relays) i r found freshRelay)))
         ∙ inv .parts .relay-numbers)
 
-pub register-follows : (capacity : ℕ) (t : Tables) → Invariant t → Follows t (registerRule capacity t .tables)
+pub register-keeps : (capacity : ℕ) (t : Tables) → Whole t → Keeps t (registerRule capacity t .tables)
 unfolding registerRule registerIn
-register-follows capacity t inv =
-    cond-case P (ltb capacityLimit capacity) (refused t BAD) _ (λ b. follows-self inv)
-    (λ b. cond-case P (leb lastNumber (t .«last_relay»)) (refused t SPENT) _ (λ e. follows-self inv) (λ e. go b e (find freeRelay (t .relays))))
+register-keeps capacity t inv =
+    cond-case P (ltb capacityLimit capacity) (refused t BAD) _ (λ b. keeps-self inv)
+    (λ b. cond-case P (leb lastNumber (t .«last_relay»)) (refused t SPENT) _ (λ e. keeps-self inv) (λ e. go b e (find freeRelay (t .relays))))
   where
     P : TablesOutcome → Type 0
-    P o = Follows t (o .tables)
+    P o = Keeps t (o .tables)
 
     go : ltb capacityLimit capacity ≡ false → leb lastNumber (t .«last_relay») ≡ false → (h : Hit Relay)
         → P (registerIn t (newRelay (t .«last_relay» + 1) capacity (t .clock)) h)
-    go b e miss = follows-self inv
+    go b e miss = keeps-self inv
     go b e (hit i old) = register-new t inv capacity (ltb-false capacityLimit capacity b) (leb-false lastNumber (t .«last_relay») e) i
 
-pub heartbeat-follows : (n : RelayNo) (t : Tables) → Invariant t → Follows t (heartbeatRule n t .tables)
+pub heartbeat-keeps : (n : RelayNo) (t : Tables) → Whole t → Keeps t (heartbeatRule n t .tables)
 unfolding heartbeatRule heartbeatIn
-heartbeat-follows n t inv = go (relayOf n t) refl
+heartbeat-keeps n t inv = go (relayOf n t) refl
   where
     P : TablesOutcome → Type 0
-    P o = Follows t (o .tables)
+    P o = Keeps t (o .tables)
 
     go : (h : Hit Relay) → relayOf n t ≡ h → P (heartbeatIn t h)
-    go miss e = follows-self inv
+    go miss e = keeps-self inv
     go (hit i r) e =
-        cond-case P (eqb (health (t .clock) r) 0) (refused t NO-RELAY) _ (λ b. follows-self inv) (λ b. beat-follows t inv n i r e)
+        cond-case P (eqb (health (t .clock) r) 0) (refused t NO-RELAY) _ (λ b. keeps-self inv) (λ b. beat-keeps t inv n i r e)

@@ -35,23 +35,24 @@ use Rattle.rules.specs.Scope.{inWindow, canWrite}
 use Rattle.rules.specs.Outcome.{slotRefused, slotAccepted}
 use Rattle.rules.specs.VolumeCalls.{isActive}
 use Rattle.rules.specs.Sound.{soundVolume, soundToken, soundPut, samePath}
+use Rattle.rules.specs.SoundParts.{Parts}
 use Rattle.rules.specs.SessionCalls.{opened, openVolume, openToken, openRule, withPuts, newPut, stagePut, stageToken, stageRule, abandonRule}
 use Rattle.rules.specs.SetLaws.{all-set, clash-last}
 use Rattle.rules.specs.BranchLaws.{cond-case}
 use Rattle.rules.specs.NumberLaws.{numbered-used, found-passes}
 use Rattle.rules.specs.RowFacts.{volume-facts, token-facts, SessionFacts, session-facts, facts-session}
-use Rattle.rules.specs.Invariant.{Invariant, follows-self, SlotSound, SlotFollows, fresh-slot}
+use Rattle.rules.specs.Invariant.{SlotSound, SlotKeeps, fresh-slot}
 use Rattle.rules.specs.HeldText.{text-bytes, path-held}
 
 -- the tables stay as they are
-same-tables : {t : Tables} {a : Answer} {s : Session} → Invariant t → SlotSound t s → SlotFollows t (record { answer = a; tables = t; session = s })
-same-tables inv h = record { tables = follows-self inv; slot = h }
+same-tables : {t : Tables} {a : Answer} {s : Session} → SlotSound t s → SlotKeeps t (record { answer = a; tables = t; session = s })
+same-tables h = record { same = refl; slot = h }
 
 abbrev pathOf : Put → List ℕ
 pathOf q = textBytes (q .path)
 
 -- open
-module _ (t : Tables) (inv : Invariant t) where
+module _ (t : Tables) (parts : Parts t) where
   opened-sound : (m : TokenNo) (i : ℕ) (k : Token) → tokenOf m t ≡ hit i k → (x : VolumeNo) (j : ℕ) (v : Volume) → volumeOf x t ≡ hit j v
       → SlotSound t (opened (k .no) (v .no) (v .version))
   unfolding tokenOf volumeOf allOf noClash
@@ -62,42 +63,36 @@ module _ (t : Tables) (inv : Invariant t) where
         (record {
           token =
               token-facts t k (numbered-used (m .0) (k .no .0) (row-passes (isToken m) (t .tokens) 0 i k e))
-              (found-passes (isToken m) (soundToken t) (t .tokens) i k (inv .parts .tokens) e) .numbered;
+              (found-passes (isToken m) (soundToken t) (t .tokens) i k (parts .tokens) e) .numbered;
           volume =
               volume-facts t v (numbered-used (x .0) (v .no .0) (row-passes (isVolume x) (t .volumes) 0 j v f))
-              (found-passes (isVolume x) (soundVolume t) (t .volumes) j v (inv .parts .volumes) f) .numbered;
+              (found-passes (isVolume x) (soundVolume t) (t .volumes) j v (parts .volumes) f) .numbered;
           count = refl;
           puts = refl;
           paths = refl;
         });
   }
 
-  pub open-follows : (m : TokenNo) (s : Session) → SlotSound t s → SlotFollows t (openRule m t s)
+  pub open-keeps : (m : TokenNo) (s : Session) → SlotSound t s → SlotKeeps t (openRule m t s)
   unfolding openRule openToken openVolume
-  open-follows m s h =
-      cond-case P (busy s) (slotRefused t s SESSION) _ (λ b. same-tables inv h) (λ b. token (tokenOf m t) refl)
+  open-keeps m s h =
+      cond-case P (busy s) (slotRefused t s SESSION) _ (λ b. same-tables h) (λ b. token (tokenOf m t) refl)
     where
       P : SlotOutcome → Type 0
-      P o = SlotFollows t o
+      P o = SlotKeeps t o
 
       volume : (i : ℕ) (k : Token) → tokenOf m t ≡ hit i k → (r : Hit Volume) → volumeOf (k .volume) t ≡ r → P (openVolume t s (k .no) r)
-      volume i k e miss f = same-tables inv h
+      volume i k e miss f = same-tables h
       volume i k e (hit j v) f =
-          cond-case P (not (isActive (v .status))) (slotRefused t s STATE) _ (λ b. same-tables inv h)
-          (λ b. same-tables inv (opened-sound m i k e (k .volume) j v f))
+          cond-case P (not (isActive (v .status))) (slotRefused t s STATE) _ (λ b. same-tables h)
+          (λ b. same-tables (opened-sound m i k e (k .volume) j v f))
 
       token : (r : Hit Token) → tokenOf m t ≡ r → P (openToken t s r)
-      token miss e = same-tables inv h
+      token miss e = same-tables h
       token (hit i k) e =
-          cond-case P (not (inWindow (t .clock) (k .scope))) (slotRefused t s WINDOW) _ (λ b. same-tables inv h)
-          (λ b. cond-case P (not (canWrite (k .scope .mode))) (slotRefused t s MODE) _ (λ c. same-tables inv h)
+          cond-case P (not (inWindow (t .clock) (k .scope))) (slotRefused t s WINDOW) _ (λ b. same-tables h)
+          (λ b. cond-case P (not (canWrite (k .scope .mode))) (slotRefused t s MODE) _ (λ c. same-tables h)
           (λ c. volume i k e (volumeOf (k .volume) t) refl))
-
-  pub abandon-follows : (s : Session) → SlotSound t s → SlotFollows t (abandonRule t s)
-  unfolding abandonRule
-  abandon-follows s h =
-      cond-case (SlotFollows t) (not (busy s)) (slotRefused t s SESSION) (slotAccepted 0 t freshSession)
-      (λ b. same-tables inv h) (λ b. same-tables inv (fresh-slot t))
 
 -- stage
 module _ (t : Tables) (s : Session) (h : SlotSound t s) (b : busy s ≡ true) (path : List ℕ) (size : ℕ) (hash : Hash)
@@ -173,25 +168,32 @@ module _ (t : Tables) (s : Session) (h : SlotSound t s) (b : busy s ≡ true) (p
           });
     }
 
-pub stage-follows : (t : Tables) → Invariant t → (path : List ℕ) (size : ℕ) (hash : Hash) (s : Session) → SlotSound t s
-    → SlotFollows t (stageRule path size hash t s)
+pub stage-keeps : (t : Tables) → (path : List ℕ) (size : ℕ) (hash : Hash) (s : Session) → SlotSound t s
+    → SlotKeeps t (stageRule path size hash t s)
 unfolding stageRule stageToken stagePut
-stage-follows t inv path size hash s h =
-    cond-case P (not (isPath path && leb size sizeLimit)) (slotRefused t s BAD) _ (λ b. same-tables inv h)
-    (λ b. cond-case P (not (busy s)) (slotRefused t s SESSION) _ (λ c. same-tables inv h)
+stage-keeps t path size hash s h =
+    cond-case P (not (isPath path && leb size sizeLimit)) (slotRefused t s BAD) _ (λ b. same-tables h)
+    (λ b. cond-case P (not (busy s)) (slotRefused t s SESSION) _ (λ c. same-tables h)
     (λ c. token (not-false (isPath path && leb size sizeLimit) b) (not-false (busy s) c) (tokenOf (s .token) t)))
   where
     P : SlotOutcome → Type 0
-    P o = SlotFollows t o
+    P o = SlotKeeps t o
 
     put : (isPath path && leb size sizeLimit) ≡ true → busy s ≡ true → (r : Hit Put) → find (isPut path) (staged s) ≡ r → P (stagePut t s (newPut path size hash) r)
-    put b c (hit j old) e = same-tables inv (replaced t s h c path size hash b j old e)
+    put b c (hit j old) e = same-tables (replaced t s h c path size hash b j old e)
     put b c miss e =
-        cond-case P (leb putRows (s .count)) (slotRefused t s ROOM) _ (λ d. same-tables inv h)
-        (λ d. same-tables inv (appended t s h c path size hash b e (leb-false putRows (s .count) d)))
+        cond-case P (leb putRows (s .count)) (slotRefused t s ROOM) _ (λ d. same-tables h)
+        (λ d. same-tables (appended t s h c path size hash b e (leb-false putRows (s .count) d)))
 
     token : (isPath path && leb size sizeLimit) ≡ true → busy s ≡ true → (r : Hit Token) → P (stageToken t s path size hash r)
-    token b c miss = same-tables inv h
+    token b c miss = same-tables h
     token b c (hit i k) =
-        cond-case P (not (covers (textBytes (k .scope .prefix)) path)) (slotRefused t s PREFIX) _ (λ d. same-tables inv h)
+        cond-case P (not (covers (textBytes (k .scope .prefix)) path)) (slotRefused t s PREFIX) _ (λ d. same-tables h)
         (λ d. put b c (find (isPut path) (staged s)) refl)
+
+-- abandon
+pub abandon-keeps : (t : Tables) (s : Session) → SlotSound t s → SlotKeeps t (abandonRule t s)
+unfolding abandonRule
+abandon-keeps t s h =
+    cond-case (SlotKeeps t) (not (busy s)) (slotRefused t s SESSION) (slotAccepted 0 t freshSession)
+    (λ b. same-tables h) (λ b. same-tables (fresh-slot t))

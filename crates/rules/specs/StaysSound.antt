@@ -1,6 +1,7 @@
 -- Every call on a sound desk leaves a sound one, and so does every list of calls. Beside the test of the desk the theorem carries that each
 -- table has its rows, that each slot has its places, and that each token is of its parent's volume (OneVolumeNeeded shows a desk that passes
--- the test, lacks the last, and fails the test after a delete). Assumes nothing.
+-- the test, lacks the last, and fails the test after a delete). What advance, remove and commit keep is taken as given here: Reached supplies
+-- it.
 use mathlib.Core.Path.{_≡_, _∙_}
 use mathlib.Core.Bool.{Bool, true}
 use mathlib.Core.List.{List, [], _∷_}
@@ -25,6 +26,7 @@ use Rattle.rules.specs.Sound.{soundSession, sound}
 use Rattle.rules.specs.SoundParts.{tables-sound, slots-sound, desk-sound}
 use Rattle.rules.specs.Advance.{advanceRule}
 use Rattle.rules.specs.VolumeCalls.{removeRule}
+use Rattle.rules.specs.SessionCalls.{openRule, stageRule, abandonRule}
 use Rattle.rules.specs.Commit.{commitRule}
 use Rattle.rules.specs.Calls.{Ask, advance, create, deposit, delete, undelete, grant, attenuate, revoke, remove, look, register, heartbeat, askRule, Work, opens, stages, commits, abandons, workRule, Call, ask, onSlot, withSlot, rule, step, run}
 use Rattle.rules.specs.Shape.{Shape}
@@ -32,11 +34,12 @@ use Rattle.rules.specs.Family.{FamilyInOneVolume}
 use Rattle.rules.specs.SetLaws.{all-set}
 use Rattle.rules.specs.BranchLaws.{cond-case}
 use Rattle.rules.specs.RowsKept.{session-grown}
-use Rattle.rules.specs.Invariant.{Invariant, Follows, SlotSound, SlotFollows}
-use Rattle.rules.specs.VolumeSound.{create-follows, deposit-follows, delete-follows, undelete-follows}
-use Rattle.rules.specs.TokenSound.{grant-follows, attenuate-follows, revoke-follows, look-follows}
-use Rattle.rules.specs.RelaySound.{register-follows, heartbeat-follows}
-use Rattle.rules.specs.SessionSound.{open-follows, stage-follows, abandon-follows}
+use Rattle.rules.specs.Invariant.{Invariant, Follows, whole-of, follows, SlotSound, SlotFollows, slot-follows}
+use Rattle.rules.specs.CreateSound.{create-keeps}
+use Rattle.rules.specs.VolumeSound.{deposit-keeps, delete-keeps, undelete-keeps}
+use Rattle.rules.specs.TokenSound.{grant-keeps, attenuate-keeps, revoke-keeps, look-keeps}
+use Rattle.rules.specs.RelaySound.{register-keeps, heartbeat-keeps}
+use Rattle.rules.specs.SessionSound.{open-keeps, stage-keeps, abandon-keeps}
 
 -- a slot has its places for puts
 abbrev pub hasPlaces : Session → Bool
@@ -76,8 +79,8 @@ module _ (d : Desk) (i : DeskInvariant d) where
   }
 
   -- and with one slot changed
-  slot-follows : (j : ℕ) (o : SlotOutcome) → SlotFollows (d .tables) o → DeskInvariant (withSlot d j o .desk)
-  slot-follows j o f =
+  slot-changes : (j : ℕ) (o : SlotOutcome) → SlotFollows (d .tables) o → DeskInvariant (withSlot d j o .desk)
+  slot-changes j o f =
       let u = o .tables in
       let s = o .session in
       record {
@@ -96,25 +99,25 @@ module _ (advances : (block : ℕ) (t : Tables) → Invariant t → Follows t (a
     (finishes : (t : Tables) → Invariant t → (s : Session) → SlotSound t s → SlotFollows t (commitRule t s)) where
   ask-follows : (a : Ask) (t : Tables) → Invariant t → Follows t (askRule a t .tables)
   unfolding askRule
-  ask-follows (advance block) = advances block
-  ask-follows (create a name k m cap) = create-follows a name k m cap
-  ask-follows (deposit v coins) = deposit-follows v coins
-  ask-follows (delete a v) = delete-follows a v
-  ask-follows (undelete a v) = undelete-follows a v
-  ask-follows (grant a v s) = grant-follows a v s
-  ask-follows (attenuate k s) = attenuate-follows k s
-  ask-follows (revoke a k) = revoke-follows a k
-  ask-follows (remove a v path) = removes a v path
-  ask-follows (look k path) = look-follows k path
-  ask-follows (register capacity) = register-follows capacity
-  ask-follows (heartbeat r) = heartbeat-follows r
+  ask-follows (advance block) t i = advances block t i
+  ask-follows (create a name k m cap) t i = follows i (create-keeps a name k m cap t (whole-of i))
+  ask-follows (deposit v coins) t i = follows i (deposit-keeps v coins t (whole-of i))
+  ask-follows (delete a v) t i = follows i (delete-keeps a v t (whole-of i) (i .family))
+  ask-follows (undelete a v) t i = follows i (undelete-keeps a v t (whole-of i))
+  ask-follows (grant a v s) t i = follows i (grant-keeps a v s t (whole-of i))
+  ask-follows (attenuate k s) t i = follows i (attenuate-keeps k s t (whole-of i))
+  ask-follows (revoke a k) t i = follows i (revoke-keeps a k t (whole-of i))
+  ask-follows (remove a v path) t i = removes a v path t i
+  ask-follows (look k path) t i = follows i (look-keeps k path t (whole-of i))
+  ask-follows (register capacity) t i = follows i (register-keeps capacity t (whole-of i))
+  ask-follows (heartbeat r) t i = follows i (heartbeat-keeps r t (whole-of i))
 
   work-follows : (w : Work) (t : Tables) → Invariant t → (s : Session) → SlotSound t s → SlotFollows t (workRule w t s)
   unfolding workRule
-  work-follows (opens k) t inv = open-follows t inv k
-  work-follows (stages path size h) t inv = stage-follows t inv path size h
-  work-follows commits t inv = finishes t inv
-  work-follows abandons t inv = abandon-follows t inv
+  work-follows (opens k) t i s h = slot-follows t (openRule k t s) i (open-keeps t (i .parts) k s h)
+  work-follows (stages path size x) t i s h = slot-follows t (stageRule path size x t s) i (stage-keeps t path size x s h)
+  work-follows commits t i s h = finishes t i s h
+  work-follows abandons t i s h = slot-follows t (abandonRule t s) i (abandon-keeps t s h)
 
   rule-stays : (c : Call) (d : Desk) → DeskInvariant d → DeskInvariant (rule c d .desk)
   unfolding rule
@@ -122,7 +125,7 @@ module _ (advances : (block : ℕ) (t : Tables) → Invariant t → Follows t (a
   rule-stays (onSlot j w) d i =
       cond-case (λ (o : Outcome). DeskInvariant (o .desk)) (leb slotRows j) (deskRefused d BAD) _ (λ b. i)
       (λ b.
-      slot-follows d i j (workRule w (d .tables) (getD (d .sessions) j freshSession))
+      slot-changes d i j (workRule w (d .tables) (getD (d .sessions) j freshSession))
       (work-follows w (d .tables) (tables-of d i) (getD (d .sessions) j freshSession) (slot-of d i j (leb-false slotRows j b))))
 
   -- one call

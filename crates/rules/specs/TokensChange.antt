@@ -1,4 +1,4 @@
--- Tokens change: the tables follow where each new row is sound and no two have one number, and where tokens go with their descendants.
+-- Tokens change: the tables stay whole where each new row is sound and no two have one number, and where tokens go with their descendants.
 -- Assumes nothing.
 use mathlib.Core.Path.{_≡_, refl, _∙_}
 use mathlib.Core.Bool.{Bool, true}
@@ -17,18 +17,18 @@ use Rattle.rules.specs.ClearedLaws.{length-cleared}
 use Rattle.rules.specs.TokensGo.{ParentsStay, tokens-go, family-stays}
 use Rattle.rules.specs.Family.{FamilyInOneVolume}
 use Rattle.rules.specs.RowsKept.{Grown, volume-grown, entry-grown, relay-grown}
-use Rattle.rules.specs.Invariant.{Invariant, Follows}
+use Rattle.rules.specs.Invariant.{Whole, Keeps}
 
-pub tokens-change : (t : Tables) (ks : List Token) → Invariant t → length ks ≡ length (t .tokens)
-    → allOf (soundToken (withTokens t ks)) ks ≡ true → noClash sameToken ks ≡ true → FamilyInOneVolume (withTokens t ks) → Follows t (withTokens t ks)
+pub tokens-change : (t : Tables) (ks : List Token) → Whole t → length ks ≡ length (t .tokens)
+    → allOf (soundToken (withTokens t ks)) ks ≡ true → noClash sameToken ks ≡ true → (FamilyInOneVolume t → FamilyInOneVolume (withTokens t ks)) → Keeps t (withTokens t ks)
 tokens-change t ks i l a c f =
     let u = withTokens t ks in
     let g : Grown t u = omega arith in
     let p = i .parts in
     record {
       grown = g;
-      invariant = record {
-        family = f;
+      family = f;
+      whole = record {
         shape = record {
           volume-rows = i .shape .volume-rows;
           entry-rows = i .shape .entry-rows;
@@ -51,9 +51,9 @@ tokens-change t ks i l a c f =
     }
 
 -- tokens go, and the parent of each that stays, stays
-pub tokens-leave : (t : Tables) (gone : Token → Bool) → ParentsStay gone (t .tokens) → Invariant t
-    → Follows t (withTokens t (cleared gone freshToken (t .tokens)))
+pub tokens-leave : (t : Tables) (gone : Token → Bool) → ParentsStay gone (t .tokens) → Whole t
+    → Keeps t (withTokens t (cleared gone freshToken (t .tokens)))
 tokens-leave t gone stay i =
     let r = tokens-go gone t stay (rest-of (i .parts)) in
     tokens-change t (cleared gone freshToken (t .tokens)) i (length-cleared gone freshToken (t .tokens)) (r .tokens) (r .token-numbers)
-    (family-stays gone t stay (i .family))
+    (family-stays gone t stay)
