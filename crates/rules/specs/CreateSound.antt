@@ -43,7 +43,8 @@ use Rattle.rules.specs.RowFacts.{facts-volume, entry-facts, token-facts,
 use Rattle.rules.specs.RowsKept.{le-given}
 use Rattle.rules.specs.Invariant.{Whole, Keeps, keeps-self, keeps-on, counts-grow}
 use Rattle.rules.specs.VolumesChange.{volumes-keep, volume-le}
-use Rattle.rules.specs.HeldText.{text-bytes, name-held}
+use Rattle.rules.specs.HeldText.{name-held}
+use Rattle.text.specs.TextLaws.{text-bytes}
 
 -- an entry's volume is in the table
 in-any : (t : Tables) (p : Placement) (n : VolumeNo) → soundIn t p (find (isVolume n) (t .volumes)) ≡ true → anyOf (isVolume n) (t .volumes) ≡ true

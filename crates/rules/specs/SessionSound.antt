@@ -42,7 +42,8 @@ use Rattle.rules.specs.BranchLaws.{cond-case}
 use Rattle.rules.specs.NumberLaws.{numbered-used, found-passes}
 use Rattle.rules.specs.RowFacts.{volume-facts, token-facts, SessionFacts, session-facts, facts-session}
 use Rattle.rules.specs.Invariant.{SlotSound, SlotKeeps, fresh-slot}
-use Rattle.rules.specs.HeldText.{text-bytes, path-held}
+use Rattle.rules.specs.HeldText.{path-held}
+use Rattle.text.specs.TextLaws.{text-bytes}
 
 -- the tables stay as they are
 same-tables : {t : Tables} {a : Answer} {s : Session} → SlotSound t s → SlotKeeps t (record { answer = a; tables = t; session = s })

@@ -11,9 +11,8 @@ use borrow.Author.Tests.{leb-true, le-leb, eqb-true, eq-eqb}
 use Rattle.lists.specs.Lists.{hit, find, allOf, keep, sumOf}
 use Rattle.lists.specs.BoolLaws.{and-left, and-right, pass-or-fail}
 use Rattle.lists.specs.TestLaws.{all-at, all-weaker}
-use Rattle.text.specs.declared.Text.{Text}
-use Rattle.text.specs.Text.{pathLimit, isPath, holds, textBytes, toText}
-use Rattle.text.specs.TextLaws.{path-fits, text-holds}
+use Rattle.text.specs.Text.{pathLimit, isPath, holds, textBytes}
+use Rattle.rules.specs.HeldText.{path-held}
 use Rattle.rules.specs.declared.RelayNo.{RelayNo}
 use Rattle.rules.specs.declared.Volume.{Volume}
 use Rattle.rules.specs.declared.Entry.{Entry}
@@ -48,12 +47,6 @@ relay-fits t r h =
     facts-fit (t .«last_relay») r
     (λ u. let f = relay-facts t r u h in record { numbered = f .numbered; within = leb-true (r .used) (r .capacity) (f .fits) })
 
--- a path that is written anew
-path-kept : (x : Text) → holds isPath x ≡ true → holds isPath (toText (textBytes x)) ≡ true
-path-kept x h =
-    let q : isPath (textBytes x) ≡ true = and-right (leb (x .len) pathLimit) (isPath (textBytes x)) h in
-    text-holds isPath (textBytes x) (path-fits (textBytes x) q) ∙ q
-
 -- the entry of a sound put is sound
 pub new-entry : (t : Tables) (v : Volume) (i : ℕ) → find (isVolume (v .no)) (t .volumes) ≡ hit i v → (z : Staged)
     → soundPut (z .0) ≡ true → soundPlacement t v (z .1) ≡ true → soundEntry t (entryIn (v .no) z) ≡ true
@@ -61,7 +54,7 @@ unfolding soundPut soundIn
 new-entry t v i found z p q =
     facts-entry t (entryIn (v .no) z)
     (record {
-      path = path-kept (z .0 .path) (and-left (holds isPath (z .0 .path)) (leb (z .0 .size) sizeLimit) p);
+      path = path-held (textBytes (z .0 .path)) (and-right (leb (z .0 .path .len) pathLimit) (isPath (textBytes (z .0 .path))) (and-left (holds isPath (z .0 .path)) (leb (z .0 .size) sizeLimit) p));
       size = and-right (holds isPath (z .0 .path)) (leb (z .0 .size) sizeLimit) p;
       place = rw found q;
     })
