@@ -1,0 +1,8 @@
+-- The definitions of typed amounts and what is proved of them. Read Amount first, then Writing, then AmountTheorems and RoundTrip.
+pub mod Bytes
+pub mod Digits
+pub mod Amount
+pub mod Writing
+pub mod Cases
+pub mod Steps
+pub mod DigitLaws

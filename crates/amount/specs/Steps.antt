@@ -1,0 +1,27 @@
+-- What the inner functions of the reader give, in the words of Amount.antt.
+use mathlib.Core.Bool.{Bool, true, false, cond}
+use mathlib.Core.List.{List}
+use Prim.Native.Nat.{ℕ, _*_, _^_}
+use lib.Dec.{eqb}
+use lib.ListN.{length}
+use Rattle.amount.specs.declared.DigitRun.{DigitRun}
+use Rattle.amount.specs.declared.DigitRun.the-variants.{Digits, Outside}
+use Rattle.amount.specs.declared.ReadAmount.{ReadAmount}
+use Rattle.amount.specs.declared.ReadAmount.the-variants.{Read, Refused}
+use Rattle.amount.specs.declared.UnitFound.{UnitFound}
+use Rattle.amount.specs.declared.UnitFound.the-variants.{Is, Nothing}
+use Rattle.amount.specs.Digits.{number}
+use Rattle.amount.specs.Amount.{within, counted, sizeOf, textRefusal}
+
+-- A run of digits, where it has from 1 to most of them.
+unfoldable pub runOf : ℕ → List ℕ → DigitRun
+runOf most d = cond (within most (length d)) (Digits (length d) (number d)) Outside
+
+-- A run that ended after so many digits.
+abbrev pub endedRun : ℕ → ℕ → DigitRun
+endedRun count value = cond (eqb count 0) Outside (Digits count value)
+
+-- The amount of a number with so many places after the mark, in the unit that was found.
+abbrev pub sized : ℕ → ℕ → UnitFound → ReadAmount
+sized n places (Is u) = counted (n * sizeOf u) (10 ^ places)
+sized n places Nothing = Refused textRefusal
