@@ -6,3 +6,4 @@ pub mod Writing
 pub mod Cases
 pub mod Steps
 pub mod DigitLaws
+pub mod StepLaws
