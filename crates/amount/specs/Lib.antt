@@ -7,3 +7,5 @@ pub mod Cases
 pub mod Steps
 pub mod DigitLaws
 pub mod StepLaws
+pub mod AmountLaws
+pub mod ReadLaws

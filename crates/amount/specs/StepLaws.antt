@@ -44,10 +44,10 @@ pub scanned-on : {d : Bool} {s : List ℕ} {i v : ℕ} → Scanned s i v → i <
 unfolding numberAfter
 scanned-on {d} {s} {i} {v} h l e t =
     let on = leading-on s i l e t in
-    record
-    { below = rw (add-one i, pow-suc 10 i) (more-below v (getD s i 0) (10 ^ i) (h .below) (digit-high _ (sym e ∙ t)))
-    ; counts = h .counts ∙ rw on (omega arith)
-    ; numbers = h .numbers ∙ rw on
+    record {
+      below = rw (add-one i, pow-suc 10 i) (more-below v (getD s i 0) (10 ^ i) (h .below) (digit-high _ (sym e ∙ t)));
+      counts = h .counts ∙ rw on (omega arith);
+      numbers = h .numbers ∙ rw on;
     }
 
 -- No digit more.

@@ -21,8 +21,11 @@ pub const LIMIT: u64 = 68_719_476_736;
 
 // The refusal numbers of the two functions here.
 pub const ROOM: u32 = 12;
+
 pub const TEXT: u32 = 22;
+
 pub const NOT_WHOLE: u32 = 23;
+
 pub const TOO_LARGE: u32 = 24;
 
 // What reading a text gives: its cap, or the number of the refusal.

@@ -4,16 +4,17 @@ ghost use Prim.Native.Nat.{_+_, _*_, _^_, _<_, _≤_};
 ghost use mathlib.Core.Bool.{_&&_};
 ghost use lib.Dec.{eqb, ltb};
 ghost use lib.ListN.{length, getD};
-ghost use Rattle.amount.specs.Amount.{amountOf, counted, isMark, sizeOf, unitAfter};
+ghost use Rattle.amount.specs.Amount.{afterWhole, amountOf, amountParsed, counted, isMark, sizeOf, unitAfter};
+ghost use Rattle.amount.specs.Digits.{following, leading, number};
 ghost use Rattle.amount.specs.Steps.{sized};
 use crate::ByteUnit;
 use crate::Cap;
+use crate::DigitRun;
 use crate::LIMIT;
 use crate::NOT_WHOLE;
 use crate::ReadAmount;
 use crate::TEXT;
 use crate::TOO_LARGE;
-use crate::DigitRun;
 use crate::UnitFound;
 use crate::digits::digit_run;
 use crate::digits::same_bytes;
@@ -76,6 +77,25 @@ fn is_mark(b: u8) -> bool
     b == 46
 }
 
+// The amount whose n whole digits are read: an optional fraction, then the unit.
+fn after_whole(text: &[u8], n: usize, whole: u64) -> ReadAmount
+    requires { ⌜ (n ≡ length (leading (now text))) × (whole ≡ number (leading (now text))) ⌝ }
+    ensures { λ r. ⌜ r ≡ amountParsed (afterWhole (leading (now (text .entry))) (following (now (text .entry)))) ⌝ }
+{
+    if n == text.len() {
+        return ReadAmount::Refused(TEXT);
+    }
+    if !is_mark(text[n]) {
+        return finish(&text[n..], whole, 0, 0);
+    }
+    let at = n + 1;
+    let DigitRun::Digits(places, fraction) = digit_run(&text[at..], 9) else {
+        return ReadAmount::Refused(TEXT);
+    };
+    let end = at + places;
+    finish(&text[end..], whole, fraction, places)
+}
+
 // The cap that a text names, or 22, 23 or 24.
 pub fn read_amount(text: &[u8]) -> ReadAmount
     ensures { λ r. ⌜ r ≡ amountOf (now (text .entry)) ⌝ }
@@ -89,16 +109,5 @@ pub fn read_amount(text: &[u8]) -> ReadAmount
     if leading_zero(text, n) {
         return ReadAmount::Refused(TEXT);
     }
-    if n == text.len() {
-        return ReadAmount::Refused(TEXT);
-    }
-    if !is_mark(text[n]) {
-        return finish(&text[n..], whole, 0, 0);
-    }
-    let at = n + 1;
-    let DigitRun::Digits(places, fraction) = digit_run(&text[at..], 9) else {
-        return ReadAmount::Refused(TEXT);
-    };
-    let end = at + places;
-    finish(&text[end..], whole, fraction, places)
+    after_whole(text, n, whole)
 }

@@ -61,7 +61,7 @@ unfolding same
 returns-3 c =
     let h = c .before .loop .inv in
     let l = c .loop-test .left in
-    sym (h .1 ∙ rw (drop-of-length-le _ l, drop-of-length-le _ (rw (h .0) at l)))
+    sym (h .1 ∙ rw (drop-of-length-le (c .before .before .before .args .a .now) l, drop-of-length-le _ (rw (h .0) at l)))
 
 pub same-bytes-spec : {M : Type 1} → statement M
 same-bytes-spec =

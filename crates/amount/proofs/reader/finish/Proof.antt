@@ -1,3 +1,4 @@
+use mathlib.Core.Path.{_≡_, refl, ap, sym, _∙_}
 use borrow.Author.Needs.{needs}
 use Rattle.amount.proofs.reader.finish.Statement.{statement}
 use Rattle.amount.proofs.reader.finish.Tie as tie
@@ -20,7 +21,7 @@ enum-told c = search needs
 
 -- src/reader.rt:53:9
 returns : tie.Need-returns
-returns c = ?
+returns c = rw (← c .before .before .unit-after .ensures, c .enum-told .given .1)
 
 -- src/reader.rt:55:5
 count-requires : tie.Need-count-requires
@@ -28,7 +29,8 @@ count-requires c κs = search needs
 
 -- src/reader.rt:48:1
 returns-2 : tie.Need-returns-2
-returns-2 c = ?
+returns-2 c =
+    c .count .ensures ∙ rw (← c .before .before .before .before .unit-after .ensures, c .before .before .unit .given .1)
 
 pub finish-spec : {M : Type 1} → statement M
 finish-spec =

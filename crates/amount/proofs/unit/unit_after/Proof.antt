@@ -1,3 +1,6 @@
+use mathlib.Core.Path.{_≡_, refl, ap, sym, _∙_}
+use Rattle.amount.specs.AmountLaws.{unit-none, unit-other, unit-on}
+use Rattle.amount.specs.ReadLaws.{part-end}
 use borrow.Author.Needs.{needs}
 use Rattle.amount.proofs.unit.unit_after.Statement.{statement}
 use Rattle.amount.proofs.unit.unit_after.Tie as tie
@@ -7,7 +10,7 @@ use Rattle.amount.proofs.unit.unit_named.Reads as unit-named-reads
 
 -- src/unit.rt:44:9
 returns : tie.Need-returns
-returns c = ?
+returns c = sym (unit-none _ (c .if1 .taken))
 
 -- src/unit.rt:46:8
 shared-slice-read-if2 : tie.Need-shared-slice-read-if2
@@ -15,7 +18,7 @@ shared-slice-read-if2 c = search needs
 
 -- src/unit.rt:47:9
 returns-2 : tie.Need-returns-2
-returns-2 c = ?
+returns-2 c = sym (unit-other _ (c .if2 .taken))
 
 -- src/unit.rt:49:16
 sub-unit-named : tie.Need-sub-unit-named
@@ -35,7 +38,7 @@ unit-named-requires c κs = search needs
 
 -- src/unit.rt:40:1
 returns-3 : tie.Need-returns-3
-returns-3 c = ?
+returns-3 c = c .unit-named .ensures ∙ rw part-end (sym (unit-on _ (c .before .before .if2 .left)))
 
 pub unit-after-spec : {M : Type 1} → statement M
 unit-after-spec =

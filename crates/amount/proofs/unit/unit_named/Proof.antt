@@ -1,3 +1,4 @@
+use Rattle.amount.specs.Amount.{unitNamed}
 use borrow.Author.Needs.{needs}
 use Rattle.amount.proofs.unit.unit_named.Statement.{statement}
 use Rattle.amount.proofs.unit.unit_named.Tie as tie
@@ -15,7 +16,8 @@ same-bytes-requires c κs = search needs
 
 -- src/unit.rt:25:9
 returns : tie.Need-returns
-returns c = ?
+unfolding unitNamed
+returns c = rw (← c .before .same-bytes .ensures, c .if1 .taken)
 
 -- src/unit.rt:27:25
 slice-aggregate-same-bytes-2 : tie.Need-slice-aggregate-same-bytes-2
@@ -27,7 +29,9 @@ same-bytes-requires-2 c κs = search needs
 
 -- src/unit.rt:28:9
 returns-2 : tie.Need-returns-2
-returns-2 c = ?
+unfolding unitNamed
+returns-2 c =
+    rw (← c .before .before .before .before .same-bytes .ensures, c .before .before .before .if1 .left, ← c .before .same-bytes2 .ensures, c .if2 .taken)
 
 -- src/unit.rt:30:25
 slice-aggregate-same-bytes-3 : tie.Need-slice-aggregate-same-bytes-3
@@ -39,7 +43,9 @@ same-bytes-requires-3 c κs = search needs
 
 -- src/unit.rt:31:9
 returns-3 : tie.Need-returns-3
-returns-3 c = ?
+unfolding unitNamed
+returns-3 c =
+    rw (← c .before .before .before .before .before .before .before .same-bytes .ensures, c .before .before .before .before .before .before .if1 .left, ← c .before .before .before .before .same-bytes2 .ensures, c .before .before .before .if2 .left, ← c .before .same-bytes3 .ensures, c .if3 .taken)
 
 -- src/unit.rt:33:25
 slice-aggregate-same-bytes-4 : tie.Need-slice-aggregate-same-bytes-4
@@ -51,11 +57,15 @@ same-bytes-requires-4 c κs = search needs
 
 -- src/unit.rt:34:9
 returns-4 : tie.Need-returns-4
-returns-4 c = ?
+unfolding unitNamed
+returns-4 c =
+    rw (← c .before .before .before .before .before .before .before .before .before .before .same-bytes .ensures, c .before .before .before .before .before .before .before .before .before .if1 .left, ← c .before .before .before .before .before .before .before .same-bytes2 .ensures, c .before .before .before .before .before .before .if2 .left, ← c .before .before .before .before .same-bytes3 .ensures, c .before .before .before .if3 .left, ← c .before .same-bytes4 .ensures, c .if4 .taken)
 
 -- src/unit.rt:21:1
 returns-5 : tie.Need-returns-5
-returns-5 c = ?
+unfolding unitNamed
+returns-5 c =
+    rw (← c .before .before .before .before .before .before .before .before .before .before .same-bytes .ensures, c .before .before .before .before .before .before .before .before .before .if1 .left, ← c .before .before .before .before .before .before .before .same-bytes2 .ensures, c .before .before .before .before .before .before .if2 .left, ← c .before .before .before .before .same-bytes3 .ensures, c .before .before .before .if3 .left, ← c .before .same-bytes4 .ensures, c .if4 .left)
 
 pub unit-named-spec : {M : Type 1} → statement M
 unit-named-spec =
