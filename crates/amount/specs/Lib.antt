@@ -9,3 +9,4 @@ pub mod DigitLaws
 pub mod StepLaws
 pub mod AmountLaws
 pub mod ReadLaws
+pub mod AmountTheorems
