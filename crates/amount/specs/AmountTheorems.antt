@@ -130,6 +130,7 @@ module _ (t : List ℕ) where
       to : (b : Bool) → same t unlimitedText ≡ b → cond b (Read Unlimited) (amountParsed (parse t)) ≡ Refused 22 → (t ≡ unlimitedText → ⊥) × (parse t ≡ noAmount)
       to true q e = absurd (let z : _≡_ {A = ℕ} 0 1 = cc in omega arith)
       to false q e = (λ w. false≢true (sym q ∙ rw w (same-refl unlimitedText)), parsed-22 (parse t) e)
+
       from : (t ≡ unlimitedText → ⊥) × (parse t ≡ noAmount) → (b : Bool) → same t unlimitedText ≡ b → cond b (Read Unlimited) (amountParsed (parse t)) ≡ Refused 22
       from s true q = absurd (s .0 (same-eq t unlimitedText q))
       from s false q = rw (s .1)

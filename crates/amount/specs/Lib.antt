@@ -8,5 +8,7 @@ pub mod Steps
 pub mod DigitLaws
 pub mod StepLaws
 pub mod AmountLaws
+pub mod DecimalLaws
+pub mod WriteLaws
 pub mod ReadLaws
 pub mod AmountTheorems

@@ -1,13 +1,14 @@
--- What the inner functions of the reader give, in the words of Amount.antt.
+-- What the inner functions of the reader and the writer give, in the words of Amount.antt and Writing.antt.
 use mathlib.Core.Bool.{Bool, true, false, cond}
 use mathlib.Core.List.{List}
 use Prim.Native.Nat.{ℕ, _*_, _^_}
 use lib.Dec.{eqb}
-use lib.ListN.{length}
+use lib.ListN.{drop, length}
 use Rattle.amount.specs.declared.DigitRun.{DigitRun}
 use Rattle.amount.specs.declared.DigitRun.the-variants.{Digits, Outside}
 use Rattle.amount.specs.declared.ReadAmount.{ReadAmount}
 use Rattle.amount.specs.declared.ReadAmount.the-variants.{Read, Refused}
+use Rattle.amount.specs.declared.Spelling.{Spelling}
 use Rattle.amount.specs.declared.UnitFound.{UnitFound}
 use Rattle.amount.specs.declared.UnitFound.the-variants.{Is, Nothing}
 use Rattle.amount.specs.Digits.{number}
@@ -25,3 +26,7 @@ endedRun count value = cond (eqb count 0) Outside (Digits count value)
 abbrev pub sized : ℕ → ℕ → UnitFound → ReadAmount
 sized n places (Is u) = counted (n * sizeOf u) (10 ^ places)
 sized n places Nothing = Refused textRefusal
+
+-- The text that a spelling holds.
+abbrev pub spelling : Spelling → List ℕ
+spelling t = drop (t .start) (t .bytes)

@@ -59,3 +59,9 @@ pub enum DigitRun {
     Digits(usize, u64),
     Outside,
 }
+
+// A text of up to 16 bytes: those of `bytes` from `start` on.
+pub struct Spelling {
+    pub bytes: [u8; 16],
+    pub start: usize,
+}
