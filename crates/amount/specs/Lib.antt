@@ -12,3 +12,4 @@ pub mod DecimalLaws
 pub mod WriteLaws
 pub mod ReadLaws
 pub mod AmountTheorems
+pub mod RoundTrip
