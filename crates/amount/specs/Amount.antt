@@ -1,12 +1,11 @@
 -- Which cap a text names (01, "Typed amounts"): the grammar first, then the number. Assumes nothing.
-use mathlib.Core.Bool.{Bool, true, false, _&&_, _||_, not, cond}
+use mathlib.Core.Bool.{Bool, _&&_, _||_, not, cond}
 use mathlib.Core.List.{List, [], _∷_, _++_}
 use Prim.Native.Nat.{ℕ, _*_, _/_, _%_, _^_}
 use lib.Dec.{eqb, leb, ltb}
 use lib.ListN.{length, getD}
 use Rattle.amount.specs.declared.ByteUnit.{ByteUnit}
 use Rattle.amount.specs.declared.ByteUnit.the-variants.{B, KiB, MiB, GiB}
-use Rattle.amount.specs.declared.Cap.{Cap}
 use Rattle.amount.specs.declared.Cap.the-variants.{Unlimited, Bytes}
 use Rattle.amount.specs.declared.ReadAmount.{ReadAmount}
 use Rattle.amount.specs.declared.ReadAmount.the-variants.{Read, Refused}

@@ -1,21 +1,17 @@
 -- Laws of the definitions in Amount.antt: the units, and the division in two parts, whole and fraction.
-use mathlib.Core.Path.{_≡_, refl, ap, sym, _∙_}
-use mathlib.Core.Bool.{Bool, true, false, cond}
-use mathlib.Core.List.{List, [], _∷_, _++_}
-use Prim.Native.Nat.{ℕ, zero, suc, _+_, _-_, _*_, _/_, _%_, _^_, _<_, _≤_}
-use native.Mathlib.Nat.{add-mul, mul-comm, mul-right-comm, mul-le-mul-right, mul-le-mul, mul-add-div-right, mul-add-mod-self-right, le-of-lt, lt-of-lt-of-le, lt-of-le-of-lt, le-trans, le-add-right, pow-le-pow-right, mul-lt-mul-of-pos-right, div-lt-iff-lt-mul, lt-div-mul-add, one-le-pow, le-div-iff-mul-le}
+use mathlib.Core.Path.{_≡_, refl, sym, _∙_}
+use mathlib.Core.List.{List, [], _∷_}
+use Prim.Native.Nat.{ℕ, _+_, _*_, _/_, _%_, _^_, _<_, _≤_}
+use native.Mathlib.Nat.{add-mul, mul-comm, mul-right-comm, mul-le-mul, mul-add-div-right, mul-add-mod-self-right, lt-of-lt-of-le, lt-of-le-of-lt, le-add-right, pow-le-pow-right, mul-lt-mul-of-pos-right, div-lt-iff-lt-mul, one-le-pow, le-div-iff-mul-le}
 use native.Mathlib.Omega.{arith}
 use borrow.Author.Tests.{eq-eqb, ne-eqb, le-leb, lt-leb}
-use lib.Dec.{eqb, leb, lit<, lit≤}
+use lib.Dec.{lit<, lit≤}
 use lib.ListN.{length, drop, getD}
 use Rattle.amount.specs.declared.ByteUnit.{ByteUnit}
 use Rattle.amount.specs.declared.ByteUnit.the-variants.{B, KiB, MiB, GiB}
-use Rattle.amount.specs.declared.Cap.{Cap}
-use Rattle.amount.specs.declared.Cap.the-variants.{Unlimited, Bytes}
-use Rattle.amount.specs.declared.ReadAmount.{ReadAmount}
+use Rattle.amount.specs.declared.Cap.the-variants.{Bytes}
 use Rattle.amount.specs.declared.ReadAmount.the-variants.{Read, Refused}
-use Rattle.amount.specs.declared.UnitFound.{UnitFound}
-use Rattle.amount.specs.declared.UnitFound.the-variants.{Is, Nothing}
+use Rattle.amount.specs.declared.UnitFound.the-variants.{Nothing}
 use Rattle.amount.specs.Amount.{limit, notWhole, tooLarge, sizeOf, unitNamed, unitAfter, counted}
 
 -- A unit has from 1 to 2^30 bytes.

@@ -1,14 +1,13 @@
 -- The cases of 01 that are marked to be proved from the definitions, in one table.
 use mathlib.Core.List.{List, [], _∷_, map}
 use mathlib.Core.Path.{_≡_, refl}
-use Prim.Native.Nat.{ℕ}
 use Prim.Native.String.{String}
-use Rattle.amount.specs.declared.Cap.the-variants.{Unlimited, Bytes}
+use Rattle.amount.specs.declared.Cap.the-variants.{Bytes}
 use Rattle.amount.specs.declared.ReadAmount.{ReadAmount}
 use Rattle.amount.specs.declared.ReadAmount.the-variants.{Read, Refused}
 use Rattle.amount.specs.Bytes.{bytes, same}
 use Rattle.amount.specs.Digits.{leading, following, numberAfter}
-use Rattle.amount.specs.Amount.{amountOf, parse, afterWhole, unitAfter, unitNamed, counted, amountParsed}
+use Rattle.amount.specs.Amount.{amountOf, parse, afterWhole, unitAfter, unitNamed, counted}
 
 -- A text and what reading it gives.
 pub record Case : Type 0 where

@@ -2,16 +2,16 @@
 use mathlib.Core.Path.{_≡_, refl, ap, sym, _∙_}
 use mathlib.Core.Bool.{Bool, true, false, _&&_, and-false, false≢true, cond}
 use mathlib.Core.List.{List, [], _∷_, _++_}
-use Prim.Native.Nat.{ℕ, zero, suc, _+_, _-_, _*_, _/_, _%_, _^_, _<_, _≤_}
+use Prim.Native.Nat.{ℕ, suc, _+_, _-_, _*_, _^_, _<_, _≤_}
 use native.Mathlib.Nat.{add-assoc, add-mul, mul-assoc, mul-one, pow-succ', mul-le-mul-right, zero-add, add-zero}
 use native.Mathlib.Numerals.{add-one}
 use native.Mathlib.Omega.{arith}
-use borrow.Author.Tests.{eqb-true, eq-eqb, leb-true, leb-false}
+use borrow.Author.Tests.{eqb-true, eq-eqb, leb-true}
 use lib.Dec.{eqb, leb, lit<}
 use lib.ListN.{length, take, drop, getD, length-append}
 use lib.Seq.{drop-cons, take-append-seam, drop-append-seam}
 use Rattle.amount.specs.Bytes.{same}
-use Rattle.amount.specs.Digits.{isDigit, leading, following, numberAfter, number, digit}
+use Rattle.amount.specs.Digits.{isDigit, leading, following, numberAfter, number}
 
 -- Both of two tests that hold together.
 pub both : (a b : Bool) → (a && b) ≡ true → (a ≡ true) × (b ≡ true)

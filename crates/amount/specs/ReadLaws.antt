@@ -1,8 +1,8 @@
 -- How the reader's steps follow the grammar of Amount.antt.
-use mathlib.Core.Path.{_≡_, refl, ap, sym, _∙_}
-use mathlib.Core.Bool.{Bool, true, false, _&&_, not, cond, and-false, false≢true}
-use mathlib.Core.List.{List, [], _∷_, _++_}
-use Prim.Native.Nat.{ℕ, zero, suc, _+_, _-_, _*_, _^_, _<_, _≤_}
+use mathlib.Core.Path.{_≡_, refl, sym, _∙_}
+use mathlib.Core.Bool.{Bool, true, false, _&&_, cond, and-false}
+use mathlib.Core.List.{List, [], _∷_}
+use Prim.Native.Nat.{ℕ, suc, _+_, _-_, _*_, _^_, _<_, _≤_}
 use native.Mathlib.Nat.{le-of-eq}
 use native.Mathlib.Numerals.{add-one}
 use native.Mathlib.Omega.{arith}
@@ -10,15 +10,13 @@ use borrow.Author.Tests.{leb-true}
 use lib.Dec.{eqb, leb, ltb}
 use lib.ListN.{length, take, drop, getD, length-drop, drop-of-length-le}
 use lib.Seq.{take-all, drop-cons, drop-drop}
-use Rattle.amount.specs.declared.DigitRun.{DigitRun}
 use Rattle.amount.specs.declared.DigitRun.the-variants.{Digits, Outside}
-use Rattle.amount.specs.declared.ReadAmount.{ReadAmount}
-use Rattle.amount.specs.declared.ReadAmount.the-variants.{Read, Refused}
+use Rattle.amount.specs.declared.ReadAmount.the-variants.{Refused}
 use Rattle.amount.specs.declared.UnitFound.{UnitFound}
 use Rattle.amount.specs.declared.UnitFound.the-variants.{Is, Nothing}
 use Rattle.amount.specs.Digits.{isDigit, leading, following, number, numberAfter}
 use Rattle.amount.specs.DigitLaws.{both, number-append, number-after, number-below, drop-leading, length-leading}
-use Rattle.amount.specs.Amount.{Parsed, amount, noAmount, within, leadingZero, wholeDigits, fractionDigits, isMark, unitAfter, withUnit, afterWhole, parse, counted, amountParsed, sizeOf}
+use Rattle.amount.specs.Amount.{noAmount, within, leadingZero, isMark, unitAfter, withUnit, afterWhole, parse, amountParsed}
 use Rattle.amount.specs.Steps.{runOf, sized}
 
 -- A part of a slice that goes on to its end.

@@ -1,32 +1,27 @@
 -- Reading what was written gives the cap again, for every cap that can be written.
-use mathlib.Core.Path.{_≡_, refl, ap, sym, _∙_}
+use mathlib.Core.Path.{_≡_, refl, _∙_}
 use mathlib.Core.Bool.{Bool, true, false, cond, and-false}
 use mathlib.Core.List.{List, [], _∷_, _++_, append-nil}
-use Prim.Native.Nat.{ℕ, zero, suc, _+_, _*_, _/_, _%_, _^_, _<_, _≤_}
+use Prim.Native.Nat.{ℕ, zero, suc, _/_, _%_, _^_, _<_, _≤_}
 use native.Mathlib.Nat.{mul-one, div-add-mod', div-le-self, mod-one}
 use native.Mathlib.Omega.{arith}
-use borrow.Author.Tests.{eqb-true, eqb-false, ltb-false, ne-eqb, le-leb, lt-ltb}
-use lib.Dec.{eqb, ltb, lit<}
+use borrow.Author.Tests.{eqb-true, ltb-false, ne-eqb, le-leb}
+use lib.Dec.{eqb, ltb}
 use lib.ListN.{length, take, drop, getD}
-use lib.Seq.{take-at, take-append-seam}
+use lib.Seq.{take-at}
 use Rattle.amount.specs.declared.ByteUnit.{ByteUnit}
 use Rattle.amount.specs.declared.ByteUnit.the-variants.{B, KiB, MiB, GiB}
 use Rattle.amount.specs.declared.Cap.{Cap}
 use Rattle.amount.specs.declared.Cap.the-variants.{Unlimited, Bytes}
-use Rattle.amount.specs.declared.ReadAmount.{ReadAmount}
-use Rattle.amount.specs.declared.ReadAmount.the-variants.{Read, Refused}
-use Rattle.amount.specs.declared.UnitFound.{UnitFound}
-use Rattle.amount.specs.declared.UnitFound.the-variants.{Is, Nothing}
-use Rattle.amount.specs.declared.Written.{Written}
+use Rattle.amount.specs.declared.ReadAmount.the-variants.{Read}
+use Rattle.amount.specs.declared.UnitFound.the-variants.{Is}
 use Rattle.amount.specs.declared.Written.the-variants.{Length, Refused as WrittenRefused}
 use Rattle.amount.specs.Bytes.{same}
-use Rattle.amount.specs.Digits.{isDigit, leading, following, number, decimalWithin, decimal}
-use Rattle.amount.specs.DigitLaws.{same-refl}
-use Rattle.amount.specs.DecimalLaws.{decimal-digits, decimal-number, decimal-some, decimal-length, decimal-first, decimal-small, leading-append, following-append}
-use Rattle.amount.specs.Amount.{tooLarge, limit, space, unlimitedText, sizeOf, nameOf, leadingZero, wholeDigits, within, Parsed, amount, noAmount, unitNamed, unitAfter, withUnit, afterWhole, parse, counted, amountParsed, amountOf}
-use Rattle.amount.specs.AmountLaws.{size-pos}
+use Rattle.amount.specs.Digits.{leading, following, decimalWithin, decimal}
+use Rattle.amount.specs.DecimalLaws.{decimal-digits, decimal-number, decimal-some, decimal-length, decimal-first, leading-append, following-append}
+use Rattle.amount.specs.Amount.{tooLarge, limit, space, unlimitedText, sizeOf, nameOf, leadingZero, wholeDigits, amount, unitNamed, unitAfter, afterWhole, parse, amountOf}
 use Rattle.amount.specs.AmountTheorems.{Exactly, read-exactly, unlimited-exactly}
-use Rattle.amount.specs.Writing.{room, divides, unitFor, inUnit, textOf, aboveLimit, writtenOf, bufferAt, bufferAfter}
+use Rattle.amount.specs.Writing.{room, divides, unitFor, textOf, aboveLimit, writtenOf, bufferAfter}
 
 -- Every unit is read back by its name.
 unit-back : (u : ByteUnit) → unitAfter (space ∷ nameOf u) ≡ Is u

@@ -1,18 +1,17 @@
 -- Laws of the definitions in Steps.antt.
 use mathlib.Core.Path.{_≡_, refl, ap, sym, _∙_}
-use mathlib.Core.Bool.{Bool, true, false, _&&_, and-false, cond}
-use mathlib.Core.List.{List, [], _∷_}
+use mathlib.Core.Bool.{Bool, true, and-false}
+use mathlib.Core.List.{List, []}
 use Prim.Native.Nat.{ℕ, zero, suc, _+_, _-_, _*_, _^_, _<_, _≤_}
 use native.Mathlib.Nat.{add-zero, zero-add, pow-suc}
 use native.Mathlib.Numerals.{add-one}
 use native.Mathlib.Omega.{arith}
-use borrow.Author.Tests.{le-leb, lt-leb, eq-eqb, ne-eqb}
+use borrow.Author.Tests.{le-leb, lt-leb, ne-eqb}
 use lib.Dec.{lit<}
 use lib.ListN.{length, drop, getD}
-use Rattle.amount.specs.declared.DigitRun.{DigitRun}
-use Rattle.amount.specs.declared.DigitRun.the-variants.{Digits, Outside}
+use Rattle.amount.specs.declared.DigitRun.the-variants.{Outside}
 use Rattle.amount.specs.Digits.{isDigit, leading, number, numberAfter}
-use Rattle.amount.specs.DigitLaws.{leading-on, digit-low, digit-high}
+use Rattle.amount.specs.DigitLaws.{leading-on, digit-high}
 use Rattle.amount.specs.Steps.{runOf, endedRun}
 
 -- A run that is not too long and has ended.

@@ -1,5 +1,5 @@
 -- What the inner functions of the reader and the writer give, in the words of Amount.antt and Writing.antt.
-use mathlib.Core.Bool.{Bool, true, false, cond}
+use mathlib.Core.Bool.{cond}
 use mathlib.Core.List.{List}
 use Prim.Native.Nat.{ℕ, _*_, _^_}
 use lib.Dec.{eqb}
@@ -7,7 +7,7 @@ use lib.ListN.{drop, length}
 use Rattle.amount.specs.declared.DigitRun.{DigitRun}
 use Rattle.amount.specs.declared.DigitRun.the-variants.{Digits, Outside}
 use Rattle.amount.specs.declared.ReadAmount.{ReadAmount}
-use Rattle.amount.specs.declared.ReadAmount.the-variants.{Read, Refused}
+use Rattle.amount.specs.declared.ReadAmount.the-variants.{Refused}
 use Rattle.amount.specs.declared.Spelling.{Spelling}
 use Rattle.amount.specs.declared.UnitFound.{UnitFound}
 use Rattle.amount.specs.declared.UnitFound.the-variants.{Is, Nothing}

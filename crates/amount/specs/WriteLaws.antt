@@ -1,7 +1,7 @@
 -- Laws for the writer: digits placed in front of a text, and a text copied to the start of a buffer.
-use mathlib.Core.Path.{_≡_, refl, ap, sym, _∙_}
-use mathlib.Core.Bool.{Bool, true, false, cond}
-use mathlib.Core.List.{List, [], _∷_, _++_, append-assoc}
+use mathlib.Core.Path.{_≡_, ap, _∙_}
+use mathlib.Core.Bool.{Bool, true, false}
+use mathlib.Core.List.{List, _∷_, _++_, append-assoc}
 use Prim.Native.Nat.{ℕ, zero, suc, _+_, _-_, _*_, _/_, _%_, _^_, _<_, _≤_}
 use native.Mathlib.Nat.{pow-suc, div-le-self}
 use native.Mathlib.Numerals.{add-one}
@@ -10,9 +10,8 @@ use borrow.Author.Tests.{ltb-false, lt-ltb, le-ltb}
 use lib.ListN.{length, take, drop, set, getD, length-drop}
 use lib.Seq.{set-split, set-at, drop-at, drop-cons, take-suc, length-take-le, getD-drop}
 use Rattle.amount.specs.declared.Cap.{Cap}
-use Rattle.amount.specs.declared.Cap.the-variants.{Unlimited, Bytes}
+use Rattle.amount.specs.declared.Cap.the-variants.{Bytes}
 use Rattle.amount.specs.declared.Spelling.{Spelling}
-use Rattle.amount.specs.declared.Written.{Written}
 use Rattle.amount.specs.declared.Written.the-variants.{Length, Refused}
 use Rattle.amount.specs.Digits.{digit, decimal}
 use Rattle.amount.specs.DecimalLaws.{decimal-small, decimal-more}

@@ -1,3 +1,4 @@
+-- `lines` is safe and ends: a line starts at or before the byte that is looked at.
 use mathlib.Core.Logic.{⊎-elim}
 use Prim.Native.Nat.{_≤_, _-_}
 use native.Mathlib.Omega.{arith}
@@ -5,9 +6,6 @@ use borrow.Author.Needs.{needs}
 use lib.ListN.{length}
 use Rattle.amount_cases.proofs.lines.Statement.{statement}
 use Rattle.amount_cases.proofs.lines.Tie as tie
-use Rattle.amount_cases.proofs.lines.Reads as reads
-use Rattle.amount_cases.proofs.lines.Lts as lts
-use Rattle.amount_cases.proofs.reading.Reads as reading-reads
 
 abbrev Inv-loop : tie.InvT-loop
 Inv-loop text start₀ i₀ start i = start ≤ i
@@ -15,47 +13,36 @@ Inv-loop text start₀ i₀ start i = start ≤ i
 abbrev μ-loop : tie.MeasureT-loop
 μ-loop text start₀ i₀ start i = length text - i
 
--- src/main.rt:62:5
 loop-holds : tie.Need-loop-holds Inv-loop μ-loop
 loop-holds c = search needs
 
--- src/main.rt:63:12
 shared-slice-read-if1 : tie.Need-shared-slice-read-if1 Inv-loop μ-loop
 shared-slice-read-if1 c = search needs
 
--- src/main.rt:64:21
 sub-reading : tie.Need-sub-reading Inv-loop μ-loop
 sub-reading c = search needs
 
--- src/main.rt:64:21
 part-reading-start : tie.Need-part-reading-start Inv-loop μ-loop
 part-reading-start c = search needs
 
--- src/main.rt:64:21
 part-reading-end : tie.Need-part-reading-end Inv-loop μ-loop
 part-reading-end c = search needs
 
--- src/main.rt:64:13
 reading-requires : tie.Need-reading-requires Inv-loop μ-loop
 reading-requires c κs = search needs
 
--- src/main.rt:65:21
 add-start : tie.Need-add-start Inv-loop μ-loop
 add-start c = search needs
 
--- src/main.rt:67:9
 add-i : tie.Need-add-i Inv-loop μ-loop
 add-i c = search needs
 
--- src/main.rt:62:5
 loop-less : tie.Need-loop-less Inv-loop μ-loop
 loop-less c = search needs
 
--- src/main.rt:62:5
 loop-again : tie.Need-loop-again Inv-loop μ-loop
 loop-again c = ⊎-elim (λ w. omega arith) (λ w. omega arith) (c .if1 .came)
 
--- src/main.rt:59:1
 returns : tie.Need-returns Inv-loop μ-loop
 returns c = search needs
 

@@ -1,14 +1,11 @@
+-- `is_digit` meets its contract: by the two tests.
 use borrow.Author.Tests.{lt-leb, le-leb}
 use Rattle.amount.proofs.digits.is_digit.Statement.{statement}
 use Rattle.amount.proofs.digits.is_digit.Tie as tie
-use Rattle.amount.proofs.digits.is_digit.Reads as reads
-use Rattle.amount.proofs.digits.is_digit.Lts as lts
 
--- src/digits.rt:31:9
 returns : tie.Need-returns
 returns c = rw (lt-leb 48 _ (c .if1 .taken))
 
--- src/digits.rt:27:1
 returns-2 : tie.Need-returns-2
 returns-2 c = rw (le-leb 48 _ (c .if1 .left))
 

@@ -1,14 +1,11 @@
+-- `run_ended` meets its contract: by the test on the count.
 use borrow.Author.Tests.{eq-eqb, ne-eqb}
 use Rattle.amount.proofs.digits.run_ended.Statement.{statement}
 use Rattle.amount.proofs.digits.run_ended.Tie as tie
-use Rattle.amount.proofs.digits.run_ended.Reads as reads
-use Rattle.amount.proofs.digits.run_ended.Lts as lts
 
--- src/digits.rt:41:9
 returns : tie.Need-returns
 returns c = rw (eq-eqb _ 0 (c .if1 .taken))
 
--- src/digits.rt:37:1
 returns-2 : tie.Need-returns-2
 returns-2 c = rw (ne-eqb _ 0 (c .if1 .left))
 

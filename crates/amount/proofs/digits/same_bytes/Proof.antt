@@ -1,6 +1,6 @@
+-- `same_bytes` meets its contract. The invariant: the slices are the same exactly where what is left of them is.
 use mathlib.Core.Path.{_≡_, refl, sym, _∙_}
-use mathlib.Core.Bool.{true}
-use Prim.Native.Nat.{_≤_, _-_}
+use Prim.Native.Nat.{_-_}
 use native.Mathlib.Omega.{arith}
 use borrow.Author.Tests.{eq-eqb, ne-eqb}
 use lib.ListN.{length, drop, drop-of-length-le}
@@ -8,8 +8,6 @@ use Rattle.amount.specs.Bytes.{same}
 use Rattle.amount.specs.DigitLaws.{same-step, same-other}
 use Rattle.amount.proofs.digits.same_bytes.Statement.{statement}
 use Rattle.amount.proofs.digits.same_bytes.Tie as tie
-use Rattle.amount.proofs.digits.same_bytes.Reads as reads
-use Rattle.amount.proofs.digits.same_bytes.Lts as lts
 
 abbrev Inv-loop : tie.InvT-loop
 Inv-loop a b i₀ i = (length a ≡ length b) × (same a b ≡ same (drop i a) (drop i b))
@@ -17,45 +15,36 @@ Inv-loop a b i₀ i = (length a ≡ length b) × (same a b ≡ same (drop i a) (
 abbrev μ-loop : tie.MeasureT-loop
 μ-loop a b i₀ i = length a - i
 
--- src/digits.rt:14:9
 returns : tie.Need-returns Inv-loop μ-loop
 returns c = sym (same-other _ _ (c .if1 .taken))
 
--- src/digits.rt:17:5
 loop-holds : tie.Need-loop-holds Inv-loop μ-loop
 loop-holds c = (c .if1 .left, refl)
 
--- src/digits.rt:18:12
 shared-slice-read-if2 : tie.Need-shared-slice-read-if2 Inv-loop μ-loop
 shared-slice-read-if2 c = omega arith
 
--- src/digits.rt:18:20
 shared-slice-read-if2-2 : tie.Need-shared-slice-read-if2-2 Inv-loop μ-loop
 shared-slice-read-if2-2 c = omega arith
 
--- src/digits.rt:19:13
 returns-2 : tie.Need-returns-2 Inv-loop μ-loop
 returns-2 c =
     let h = c .before .before .before .before .loop .inv in
     let l = c .before .before .before .loop-test .taken in
     sym (h .1 ∙ same-step _ _ _ l (rw (h .0) at l) ∙ rw (ne-eqb _ _ (c .if2 .taken)))
 
--- src/digits.rt:21:9
 add-i : tie.Need-add-i Inv-loop μ-loop
 add-i c = omega arith
 
--- src/digits.rt:17:5
 loop-less : tie.Need-loop-less Inv-loop μ-loop
 loop-less c = omega arith
 
--- src/digits.rt:17:5
 loop-again : tie.Need-loop-again Inv-loop μ-loop
 loop-again c =
     let h = c .before .before .before .before .loop .inv in
     let l = c .before .before .before .loop-test .taken in
     (h .0, h .1 ∙ same-step _ _ _ l (rw (h .0) at l) ∙ rw (eq-eqb _ _ (c .if2 .left)))
 
--- src/digits.rt:10:1
 returns-3 : tie.Need-returns-3 Inv-loop μ-loop
 unfolding same
 returns-3 c =

@@ -1,4 +1,5 @@
-use mathlib.Core.Path.{_≡_, refl, sym, _∙_}
+-- `ten_to` meets its contract. The invariant: the power of as many tens as turns.
+use mathlib.Core.Path.{_≡_, refl, _∙_}
 use Prim.Native.Nat.{_≤_, _-_, _^_}
 use native.Mathlib.Nat.{pow-suc, pow-le-pow-right}
 use native.Mathlib.Numerals.{add-one}
@@ -6,8 +7,6 @@ use native.Mathlib.Omega.{arith}
 use lib.Dec.{lit<}
 use Rattle.amount.proofs.digits.ten_to.Statement.{statement}
 use Rattle.amount.proofs.digits.ten_to.Tie as tie
-use Rattle.amount.proofs.digits.ten_to.Reads as reads
-use Rattle.amount.proofs.digits.ten_to.Lts as lts
 
 abbrev Inv-loop : tie.InvT-loop
 Inv-loop places i₀ power₀ i power = (i ≤ places) × (power ≡ 10 ^ i)
@@ -15,29 +14,23 @@ Inv-loop places i₀ power₀ i power = (i ≤ places) × (power ≡ 10 ^ i)
 abbrev μ-loop : tie.MeasureT-loop
 μ-loop places i₀ power₀ i power = places - i
 
--- src/digits.rt:74:5
 loop-holds : tie.Need-loop-holds Inv-loop μ-loop
 loop-holds c = (omega arith, refl)
 
--- src/digits.rt:75:9
 mul-power : tie.Need-mul-power Inv-loop μ-loop
 mul-power c =
     let p = pow-le-pow-right {n = 10} (lit< tt) {i = c .before .loop .i} {j = 9} (omega arith) in
     omega (arith, c .before .loop .inv .1)
 
--- src/digits.rt:76:9
 add-i : tie.Need-add-i Inv-loop μ-loop
 add-i c = omega arith
 
--- src/digits.rt:74:5
 loop-less : tie.Need-loop-less Inv-loop μ-loop
 loop-less c = omega arith
 
--- src/digits.rt:74:5
 loop-again : tie.Need-loop-again Inv-loop μ-loop
 loop-again c = (omega arith, rw (c .before .loop .inv .1, add-one, pow-suc))
 
--- src/digits.rt:68:1
 returns : tie.Need-returns Inv-loop μ-loop
 returns c =
     let e : c .before .loop .i ≡ c .before .before .args .places = omega arith in

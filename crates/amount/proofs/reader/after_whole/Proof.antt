@@ -1,18 +1,14 @@
-use mathlib.Core.Path.{_≡_, refl, ap, sym, _∙_}
+-- `after_whole` meets its contract, by the laws of ReadLaws on what may follow the whole digits.
+use mathlib.Core.Path.{sym, _∙_}
 use Prim.Native.Nat.{_+_, _≤_}
 use native.Mathlib.Omega.{arith}
 use borrow.Author.Tests.{not-true, not-false}
+use borrow.Author.Needs.{needs}
 use lib.ListN.{length, drop}
 use Rattle.amount.specs.Digits.{leading}
 use Rattle.amount.specs.ReadLaws.{Run, part-end, run-found, run-most, run-below, whole-within-text, nothing-after, fraction-inside, no-mark, no-fraction, fraction-on}
-use borrow.Author.Needs.{needs}
 use Rattle.amount.proofs.reader.after_whole.Statement.{statement}
 use Rattle.amount.proofs.reader.after_whole.Tie as tie
-use Rattle.amount.proofs.reader.after_whole.Reads as reads
-use Rattle.amount.proofs.reader.after_whole.Lts as lts
-use Rattle.amount.proofs.digits.digit_run.Reads as digit-run-reads
-use Rattle.amount.proofs.reader.finish.Reads as finish-reads
-use Rattle.amount.proofs.reader.is_mark.Reads as is-mark-reads
 
 -- The fraction's digits, and the end of them.
 found : (c : tie.After-known-told) → Run 9 (leading (drop (c .before .before .before .before .before .before .before .before .before .before .args .n + 1) (c .before .before .before .before .before .before .before .before .before .before .args .text .now))) (c .before .places .given .0 .0) (c .before .places .given .0 .1 .0)
@@ -23,112 +19,90 @@ inside c =
     let w = whole-within-text (c .before .before .before .before .before .before .before .before .before .before .args .text .now) (c .before .before .before .before .before .before .before .before .before .before .pre .0) (c .before .before .before .before .before .before .before .before .before .before .pre .1) in
     fraction-inside (c .before .before .before .before .before .before .before .before .before .before .args .text .now) (c .before .before .before .before .before .before .before .before .before .before .pre .0) (c .before .before .before .before .before .before .before .before .before .before .pre .1) (omega arith) (c .before .before .before .before .before .before .is-mark .ensures) (found c)
 
--- src/reader.rt:86:9
 returns : tie.Need-returns
 returns c =
     sym (nothing-after (c .before .before .args .text .now) (c .before .before .pre .0) (c .before .before .pre .1) (c .if1 .taken))
 
--- src/reader.rt:88:17
 shared-slice-read-is-mark : tie.Need-shared-slice-read-is-mark
 shared-slice-read-is-mark c =
     let w = whole-within-text (c .before .before .before .args .text .now) (c .before .before .before .pre .0) (c .before .before .before .pre .1) in
     omega arith
 
--- src/reader.rt:88:9
 is-mark-requires : tie.Need-is-mark-requires
 is-mark-requires c κs = search needs
 
--- src/reader.rt:89:23
 sub-finish : tie.Need-sub-finish
 sub-finish c =
     let w = whole-within-text (c .before .before .before .before .before .args .text .now) (c .before .before .before .before .before .pre .0) (c .before .before .before .before .before .pre .1) in
     omega arith
 
--- src/reader.rt:89:23
 part-finish-start : tie.Need-part-finish-start
 part-finish-start c =
     let w = whole-within-text (c .before .before .before .before .before .args .text .now) (c .before .before .before .before .before .pre .0) (c .before .before .before .before .before .pre .1) in
     search needs
 
--- src/reader.rt:89:23
 part-finish-end : tie.Need-part-finish-end
 part-finish-end c = search needs
 
--- src/reader.rt:89:9
 finish-requires : tie.Need-finish-requires
 finish-requires c κs = search needs
 
--- src/reader.rt:89:9
 returns-2 : tie.Need-returns-2
 returns-2 c =
     let w = whole-within-text (c .before .before .before .before .before .before .before .args .text .now) (c .before .before .before .before .before .before .before .pre .0) (c .before .before .before .before .before .before .before .pre .1) in
     c .finish .ensures ∙ rw part-end (sym (no-mark (c .before .before .before .before .before .before .before .args .text .now) (c .before .before .before .before .before .before .before .pre .0) (c .before .before .before .before .before .before .before .pre .1) (omega arith) (c .before .before .before .is-mark .ensures) (not-true _ (c .before .before .if2 .taken))))
 
--- src/reader.rt:91:14
 add-at : tie.Need-add-at
 add-at c =
     let w = whole-within-text (c .before .before .before .before .before .args .text .now) (c .before .before .before .before .before .pre .0) (c .before .before .before .before .before .pre .1) in
     omega arith
 
--- src/reader.rt:92:56
 sub-digit-run : tie.Need-sub-digit-run
 sub-digit-run c =
     let w = whole-within-text (c .before .before .before .before .before .args .text .now) (c .before .before .before .before .before .pre .0) (c .before .before .before .before .before .pre .1) in
     omega arith
 
--- src/reader.rt:92:56
 part-digit-run-start : tie.Need-part-digit-run-start
 part-digit-run-start c =
     let w = whole-within-text (c .before .before .before .before .before .args .text .now) (c .before .before .before .before .before .pre .0) (c .before .before .before .before .before .pre .1) in
     search needs
 
--- src/reader.rt:92:56
 part-digit-run-end : tie.Need-part-digit-run-end
 part-digit-run-end c = search needs
 
--- src/reader.rt:92:46
 digit-run-requires : tie.Need-digit-run-requires
 digit-run-requires c κs = search needs
 
--- src/reader.rt:92:26
 enum-known-places : tie.Need-enum-known-places
 enum-known-places c = search needs
 
--- src/reader.rt:93:9
 enum-told : tie.Need-enum-told
 enum-told c = search needs
 
--- src/reader.rt:93:9
 returns-3 : tie.Need-returns-3
 returns-3 c =
     let w = whole-within-text (c .before .before .before .before .before .before .before .before .before .args .text .now) (c .before .before .before .before .before .before .before .before .before .pre .0) (c .before .before .before .before .before .before .before .before .before .pre .1) in
     sym (no-fraction (c .before .before .before .before .before .before .before .before .before .args .text .now) (c .before .before .before .before .before .before .before .before .before .pre .0) (c .before .before .before .before .before .before .before .before .before .pre .1) (omega arith) (c .before .before .before .before .before .is-mark .ensures) (not-false _ (c .before .before .before .before .if2 .left)) (rw part-end at (sym (c .before .before .digit-run .ensures) ∙ c .enum-told .given .1)))
 
--- src/reader.rt:95:15
 add-end : tie.Need-add-end
 add-end c =
     let h = inside c in
     omega arith
 
--- src/reader.rt:96:12
 sub-finish-2 : tie.Need-sub-finish-2
 sub-finish-2 c = inside c
 
--- src/reader.rt:96:12
 part-finish-start-2 : tie.Need-part-finish-start-2
 part-finish-start-2 c =
     let h = inside c in
     search needs
 
--- src/reader.rt:96:12
 part-finish-end-2 : tie.Need-part-finish-end-2
 part-finish-end-2 c = search needs
 
--- src/reader.rt:96:5
 finish-requires-2 : tie.Need-finish-requires-2
-finish-requires-2 c κs = (run-most (found (c .before)) .1, run-below 9 _ (found (c .before)))
+finish-requires-2 c κs = omega (arith, run-most (found (c .before)) .1, run-below 9 _ (found (c .before)))
 
--- src/reader.rt:81:1
 returns-4 : tie.Need-returns-4
 returns-4 c =
     let w = whole-within-text (c .before .before .before .before .before .before .before .before .before .before .before .before .args .text .now) (c .before .before .before .before .before .before .before .before .before .before .before .before .pre .0) (c .before .before .before .before .before .before .before .before .before .before .before .before .pre .1) in

@@ -1,66 +1,51 @@
-use mathlib.Core.Path.{_≡_, refl, ap, sym, _∙_}
+-- `count` meets its contract: the division in two parts of AmountLaws, and nothing overflows.
+use mathlib.Core.Path.{sym}
 use native.Mathlib.Omega.{arith}
-use Rattle.amount.specs.AmountLaws.{size-pos, size-most, fraction-fits, fraction-below, whole-within, parts-part, parts-far, parts-above, parts-read, parts-fit}
 use borrow.Author.Needs.{needs}
+use Rattle.amount.specs.AmountLaws.{size-pos, fraction-fits, whole-within, parts-part, parts-far, parts-above, parts-read, parts-fit}
 use Rattle.amount.proofs.reader.count.Statement.{statement}
 use Rattle.amount.proofs.reader.count.Tie as tie
-use Rattle.amount.proofs.reader.count.Reads as reads
-use Rattle.amount.proofs.reader.count.Lts as lts
-use Rattle.amount.proofs.digits.ten_to.Reads as ten-to-reads
-use Rattle.amount.proofs.unit.size.Reads as size-reads
 
--- src/reader.rt:31:9
 ten-to-requires : tie.Need-ten-to-requires
 ten-to-requires c κs = search needs
 
--- src/reader.rt:32:9
 size-requires : tie.Need-size-requires
 size-requires c κs = search needs
 
--- src/reader.rt:33:16
 mul-part : tie.Need-mul-part
 mul-part c =
     record { fits = rw (c .size .ensures) (fraction-fits _ _ (c .before .before .args .unit) (c .before .before .pre .1) (c .before .before .pre .0)) }
 
--- src/reader.rt:34:8
 rem-if1 : tie.Need-rem-if1
 rem-if1 c = search needs
 
--- src/reader.rt:35:9
 returns : tie.Need-returns
 returns c =
     sym (parts-part _ _ _ (c .before .before .before .args .unit) (c .before .before .ten-to .ensures) (c .before .size .ensures) (c .if1 .taken))
 
--- src/reader.rt:37:8
 div-if2 : tie.Need-div-if2
 div-if2 c = rw (c .before .size .ensures) (size-pos (c .before .before .before .args .unit))
 
--- src/reader.rt:38:9
 returns-2 : tie.Need-returns-2
 returns-2 c =
     sym (parts-far _ _ _ (c .before .before .before .before .args .unit) (c .before .before .before .ten-to .ensures) (c .before .before .size .ensures) (c .before .if1 .left) (c .if2 .taken))
 
--- src/reader.rt:40:17
 mul-total : tie.Need-mul-total
 mul-total c =
     let h = whole-within _ _ (rw (c .before .before .size .ensures) (size-pos (c .before .before .before .before .args .unit))) (c .if2 .left) in
     omega (arith, h)
 
--- src/reader.rt:40:33
 div-total : tie.Need-div-total
 div-total c = search needs
 
--- src/reader.rt:40:17
 add-total : tie.Need-add-total
 add-total c =
     record { fits = parts-fit _ _ _ (c .before .before .before .before .args .unit) (c .before .before .before .ten-to .ensures) (c .before .before .size .ensures) (c .before .before .before .before .pre .1) (c .if2 .left) }
 
--- src/reader.rt:42:9
 returns-3 : tie.Need-returns-3
 returns-3 c =
     sym (parts-above _ _ _ (c .before .before .before .before .before .args .unit) (c .before .before .before .before .ten-to .ensures) (c .before .before .before .size .ensures) (c .before .before .if1 .left) (c .if3 .taken))
 
--- src/reader.rt:27:1
 returns-4 : tie.Need-returns-4
 returns-4 c =
     sym (parts-read _ _ _ (c .before .before .before .before .before .args .unit) (c .before .before .before .before .ten-to .ensures) (c .before .before .before .size .ensures) (c .before .before .if1 .left) (c .if3 .left))

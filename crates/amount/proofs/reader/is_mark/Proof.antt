@@ -1,14 +1,11 @@
+-- `is_mark` meets its contract.
 use borrow.Author.Tests.{eq-eqb, ne-eqb}
 use Rattle.amount.proofs.reader.is_mark.Statement.{statement}
 use Rattle.amount.proofs.reader.is_mark.Tie as tie
-use Rattle.amount.proofs.reader.is_mark.Reads as reads
-use Rattle.amount.proofs.reader.is_mark.Lts as lts
 
--- src/reader.rt:74:9
 returns : tie.Need-returns
 returns c = rw (eq-eqb _ 44 (c .if1 .taken))
 
--- src/reader.rt:70:1
 returns-2 : tie.Need-returns-2
 returns-2 c = rw (ne-eqb _ 44 (c .if1 .left))
 

@@ -1,19 +1,15 @@
+-- `leading_zero` meets its contract.
 use borrow.Author.Tests.{lt-ltb, le-ltb}
 use borrow.Author.Needs.{needs}
 use Rattle.amount.proofs.reader.leading_zero.Statement.{statement}
 use Rattle.amount.proofs.reader.leading_zero.Tie as tie
-use Rattle.amount.proofs.reader.leading_zero.Reads as reads
-use Rattle.amount.proofs.reader.leading_zero.Lts as lts
 
--- src/reader.rt:64:9
 returns : tie.Need-returns
 returns c = rw (le-ltb 1 _ (c .if1 .taken))
 
--- src/reader.rt:66:5
 shared-slice-read-result : tie.Need-shared-slice-read-result
 shared-slice-read-result c = search needs
 
--- src/reader.rt:59:1
 returns-2 : tie.Need-returns-2
 returns-2 c = rw (lt-ltb 1 _ (c .before .if1 .left))
 

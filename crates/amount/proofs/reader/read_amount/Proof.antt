@@ -1,70 +1,54 @@
-use mathlib.Core.Path.{_≡_, refl, ap, sym, _∙_}
+-- `read_amount` meets its contract.
+use mathlib.Core.Path.{sym, _∙_}
 use native.Mathlib.Omega.{arith}
+use borrow.Author.Needs.{needs}
 use Rattle.amount.specs.Digits.{leading}
 use Rattle.amount.specs.DigitLaws.{length-leading}
 use Rattle.amount.specs.Amount.{amountOf}
 use Rattle.amount.specs.ReadLaws.{Run, run-found, parse-outside, parse-zero, parse-on}
-use borrow.Author.Needs.{needs}
 use Rattle.amount.proofs.reader.read_amount.Statement.{statement}
 use Rattle.amount.proofs.reader.read_amount.Tie as tie
-use Rattle.amount.proofs.reader.read_amount.Reads as reads
-use Rattle.amount.proofs.reader.read_amount.Lts as lts
-use Rattle.amount.proofs.digits.digit_run.Reads as digit-run-reads
-use Rattle.amount.proofs.digits.same_bytes.Reads as same-bytes-reads
-use Rattle.amount.proofs.reader.after_whole.Reads as after-whole-reads
-use Rattle.amount.proofs.reader.leading_zero.Reads as leading-zero-reads
 
 -- The whole digits.
 found : (c : tie.After-known-told) → Run 11 (leading (c .before .before .before .before .before .before .before .before .args .text .now)) (c .before .n .given .0 .0) (c .before .n .given .0 .1 .0)
 found c = run-found 11 _ (sym (c .before .before .before .digit-run .ensures) ∙ c .before .n .given .1)
 
--- src/reader.rt:103:25
 slice-aggregate-same-bytes : tie.Need-slice-aggregate-same-bytes
 slice-aggregate-same-bytes c = search needs
 
--- src/reader.rt:103:8
 same-bytes-requires : tie.Need-same-bytes-requires
 same-bytes-requires c κs = search needs
 
--- src/reader.rt:104:9
 returns : tie.Need-returns
 unfolding amountOf
 returns c = rw (← c .before .same-bytes .ensures, c .if1 .taken)
 
--- src/reader.rt:106:38
 digit-run-requires : tie.Need-digit-run-requires
 digit-run-requires c κs = search needs
 
--- src/reader.rt:106:26
 enum-known-n : tie.Need-enum-known-n
 enum-known-n c = search needs
 
--- src/reader.rt:107:9
 enum-told : tie.Need-enum-told
 enum-told c = search needs
 
--- src/reader.rt:107:9
 returns-2 : tie.Need-returns-2
 unfolding amountOf
 returns-2 c =
     rw (← c .before .before .before .before .same-bytes .ensures, c .before .before .before .if1 .left, parse-outside _ (sym (c .before .before .digit-run .ensures) ∙ c .enum-told .given .1))
 
--- src/reader.rt:109:8
 leading-zero-requires : tie.Need-leading-zero-requires
 leading-zero-requires c κs =
     omega (arith, found c .count, length-leading (c .before .before .before .before .before .before .before .before .args .text .now))
 
--- src/reader.rt:110:9
 returns-3 : tie.Need-returns-3
 unfolding amountOf
 returns-3 c =
     rw (← c .before .before .before .before .before .before .before .same-bytes .ensures, c .before .before .before .before .before .before .if1 .left, parse-zero _ (found (c .before .before)) (c .before .leading-zero .ensures) (c .if2 .taken))
 
--- src/reader.rt:112:5
 after-whole-requires : tie.Need-after-whole-requires
 after-whole-requires c κs = (sym (found (c .before .before) .count), sym (found (c .before .before) .value))
 
--- src/reader.rt:100:1
 returns-4 : tie.Need-returns-4
 unfolding amountOf
 returns-4 c =

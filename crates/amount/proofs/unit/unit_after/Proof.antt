@@ -1,42 +1,32 @@
-use mathlib.Core.Path.{_≡_, refl, ap, sym, _∙_}
+-- `unit_after` meets its contract.
+use mathlib.Core.Path.{sym, _∙_}
+use borrow.Author.Needs.{needs}
 use Rattle.amount.specs.AmountLaws.{unit-none, unit-other, unit-on}
 use Rattle.amount.specs.ReadLaws.{part-end}
-use borrow.Author.Needs.{needs}
 use Rattle.amount.proofs.unit.unit_after.Statement.{statement}
 use Rattle.amount.proofs.unit.unit_after.Tie as tie
-use Rattle.amount.proofs.unit.unit_after.Reads as reads
-use Rattle.amount.proofs.unit.unit_after.Lts as lts
-use Rattle.amount.proofs.unit.unit_named.Reads as unit-named-reads
 
--- src/unit.rt:44:9
 returns : tie.Need-returns
 returns c = sym (unit-none _ (c .if1 .taken))
 
--- src/unit.rt:46:8
 shared-slice-read-if2 : tie.Need-shared-slice-read-if2
 shared-slice-read-if2 c = search needs
 
--- src/unit.rt:47:9
 returns-2 : tie.Need-returns-2
 returns-2 c = sym (unit-other _ (c .if2 .taken))
 
--- src/unit.rt:49:16
 sub-unit-named : tie.Need-sub-unit-named
 sub-unit-named c = search needs
 
--- src/unit.rt:49:16
 part-unit-named-start : tie.Need-part-unit-named-start
 part-unit-named-start c = search needs
 
--- src/unit.rt:49:16
 part-unit-named-end : tie.Need-part-unit-named-end
 part-unit-named-end c = search needs
 
--- src/unit.rt:49:5
 unit-named-requires : tie.Need-unit-named-requires
 unit-named-requires c κs = search needs
 
--- src/unit.rt:40:1
 returns-3 : tie.Need-returns-3
 returns-3 c = c .unit-named .ensures ∙ rw part-end (sym (unit-on _ (c .before .before .if2 .left)))
 

@@ -1,67 +1,52 @@
-use Rattle.amount.specs.Amount.{unitNamed}
+-- `unit_named` meets its contract: the four names are compared in the order of the definition.
 use borrow.Author.Needs.{needs}
+use Rattle.amount.specs.Amount.{unitNamed}
 use Rattle.amount.proofs.unit.unit_named.Statement.{statement}
 use Rattle.amount.proofs.unit.unit_named.Tie as tie
-use Rattle.amount.proofs.unit.unit_named.Reads as reads
-use Rattle.amount.proofs.unit.unit_named.Lts as lts
-use Rattle.amount.proofs.digits.same_bytes.Reads as same-bytes-reads
 
--- src/unit.rt:24:25
 slice-aggregate-same-bytes : tie.Need-slice-aggregate-same-bytes
 slice-aggregate-same-bytes c = search needs
 
--- src/unit.rt:24:8
 same-bytes-requires : tie.Need-same-bytes-requires
 same-bytes-requires c κs = search needs
 
--- src/unit.rt:25:9
 returns : tie.Need-returns
 unfolding unitNamed
 returns c = rw (← c .before .same-bytes .ensures, c .if1 .taken)
 
--- src/unit.rt:27:25
 slice-aggregate-same-bytes-2 : tie.Need-slice-aggregate-same-bytes-2
 slice-aggregate-same-bytes-2 c = search needs
 
--- src/unit.rt:27:8
 same-bytes-requires-2 : tie.Need-same-bytes-requires-2
 same-bytes-requires-2 c κs = search needs
 
--- src/unit.rt:28:9
 returns-2 : tie.Need-returns-2
 unfolding unitNamed
 returns-2 c =
     rw (← c .before .before .before .before .same-bytes .ensures, c .before .before .before .if1 .left, ← c .before .same-bytes2 .ensures, c .if2 .taken)
 
--- src/unit.rt:30:25
 slice-aggregate-same-bytes-3 : tie.Need-slice-aggregate-same-bytes-3
 slice-aggregate-same-bytes-3 c = search needs
 
--- src/unit.rt:30:8
 same-bytes-requires-3 : tie.Need-same-bytes-requires-3
 same-bytes-requires-3 c κs = search needs
 
--- src/unit.rt:31:9
 returns-3 : tie.Need-returns-3
 unfolding unitNamed
 returns-3 c =
     rw (← c .before .before .before .before .before .before .before .same-bytes .ensures, c .before .before .before .before .before .before .if1 .left, ← c .before .before .before .before .same-bytes2 .ensures, c .before .before .before .if2 .left, ← c .before .same-bytes3 .ensures, c .if3 .taken)
 
--- src/unit.rt:33:25
 slice-aggregate-same-bytes-4 : tie.Need-slice-aggregate-same-bytes-4
 slice-aggregate-same-bytes-4 c = search needs
 
--- src/unit.rt:33:8
 same-bytes-requires-4 : tie.Need-same-bytes-requires-4
 same-bytes-requires-4 c κs = search needs
 
--- src/unit.rt:34:9
 returns-4 : tie.Need-returns-4
 unfolding unitNamed
 returns-4 c =
     rw (← c .before .before .before .before .before .before .before .before .before .before .same-bytes .ensures, c .before .before .before .before .before .before .before .before .before .if1 .left, ← c .before .before .before .before .before .before .before .same-bytes2 .ensures, c .before .before .before .before .before .before .if2 .left, ← c .before .before .before .before .same-bytes3 .ensures, c .before .before .before .if3 .left, ← c .before .same-bytes4 .ensures, c .if4 .taken)
 
--- src/unit.rt:21:1
 returns-5 : tie.Need-returns-5
 unfolding unitNamed
 returns-5 c =

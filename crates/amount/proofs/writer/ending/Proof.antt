@@ -1,40 +1,30 @@
-use mathlib.Core.Path.{_≡_, refl}
-use lib.Dec.{lit≤}
+-- `ending` meets its contract, unit by unit.
 use borrow.Author.Needs.{needs}
+use lib.Dec.{lit≤}
 use Rattle.amount.proofs.writer.ending.Statement.{statement}
 use Rattle.amount.proofs.writer.ending.Tie as tie
-use Rattle.amount.proofs.writer.ending.Reads as reads
-use Rattle.amount.proofs.writer.ending.Lts as lts
 
--- src/writer.rt:55:20
 enum-told : tie.Need-enum-told
 enum-told c = search needs
 
--- src/writer.rt:59:20
 enum-told-2 : tie.Need-enum-told-2
 enum-told-2 c = search needs
 
--- src/writer.rt:63:20
 enum-told-3 : tie.Need-enum-told-3
 enum-told-3 c = search needs
 
--- src/writer.rt:67:20
 enum-told-4 : tie.Need-enum-told-4
 enum-told-4 c = search needs
 
--- src/writer.rt:50:1
 returns : tie.Need-returns
 returns c = (rw (c .enum-told .given .1), lit≤ tt, lit≤ tt)
 
--- src/writer.rt:50:1
 returns-2 : tie.Need-returns-2
 returns-2 c = (rw (c .enum-told2 .given .1), lit≤ tt, lit≤ tt)
 
--- src/writer.rt:50:1
 returns-3 : tie.Need-returns-3
 returns-3 c = (rw (c .enum-told3 .given .1), lit≤ tt, lit≤ tt)
 
--- src/writer.rt:50:1
 returns-4 : tie.Need-returns-4
 returns-4 c = (rw (c .enum-told4 .given .1), lit≤ tt, lit≤ tt)
 

@@ -1,17 +1,15 @@
-use lib.Seq.{take-all}
-use lib.ListN.{length-drop}
-use mathlib.Core.Path.{_≡_, refl, sym, _∙_}
+-- `put` meets its contract. The invariant: the first i bytes are the text's, the others as they were.
+use mathlib.Core.Path.{_≡_, refl, _∙_}
 use mathlib.Core.List.{_++_}
-use Prim.Native.Nat.{_≤_, _<_, _-_}
+use Prim.Native.Nat.{_≤_, _-_}
 use native.Mathlib.Omega.{arith}
 use borrow.Author.Needs.{needs}
-use lib.ListN.{length, take, drop, length-set}
+use lib.Seq.{take-all}
+use lib.ListN.{length-drop, length, take, drop, length-set}
 use Rattle.amount.specs.Steps.{spelling}
 use Rattle.amount.specs.WriteLaws.{spelled-on}
 use Rattle.amount.proofs.writer.put.Statement.{statement}
 use Rattle.amount.proofs.writer.put.Tie as tie
-use Rattle.amount.proofs.writer.put.Reads as reads
-use Rattle.amount.proofs.writer.put.Lts as lts
 
 abbrev Inv-loop : tie.InvT-loop
 Inv-loop buf₀ text start n i₀ buf i =
@@ -21,35 +19,27 @@ Inv-loop buf₀ text start n i₀ buf i =
 abbrev μ-loop : tie.MeasureT-loop
 μ-loop buf₀ text start n i₀ buf i = n - i
 
--- src/writer.rt:114:13
 sub-n : tie.Need-sub-n Inv-loop μ-loop
 sub-n c = omega arith
 
--- src/writer.rt:116:5
 loop-holds : tie.Need-loop-holds Inv-loop μ-loop
 loop-holds c = (omega arith, search needs, omega arith, omega arith, refl, refl)
 
--- src/writer.rt:117:29
 add-buf : tie.Need-add-buf Inv-loop μ-loop
 add-buf c = omega arith
 
--- src/writer.rt:117:18
 element-copy-out-buf : tie.Need-element-copy-out-buf Inv-loop μ-loop
 element-copy-out-buf c = omega arith
 
--- src/writer.rt:117:9
 slice-write-buf : tie.Need-slice-write-buf Inv-loop μ-loop
 slice-write-buf c = omega arith
 
--- src/writer.rt:118:9
 add-i : tie.Need-add-i Inv-loop μ-loop
 add-i c = omega arith
 
--- src/writer.rt:116:5
 loop-less : tie.Need-loop-less Inv-loop μ-loop
 loop-less c = omega arith
 
--- src/writer.rt:116:5
 loop-again : tie.Need-loop-again Inv-loop μ-loop
 loop-again c =
     let h = c .before .before .loop .inv in
@@ -57,11 +47,9 @@ loop-again c =
     let i = c .before .before .loop .i in
     (h .0, h .1, omega arith, h .3, simp length-set (h .4), rw (h .5) (spelled-on (a .t1 .bytes) (a .buf .now) (a .t1 .start) i (omega arith) (omega arith)))
 
--- src/writer.rt:109:1
 same-length : tie.Need-same-length Inv-loop μ-loop
 same-length c = c .before .loop .inv .4
 
--- src/writer.rt:109:1
 returns : tie.Need-returns Inv-loop μ-loop
 returns c =
     let h = c .before .loop .inv in

@@ -1,3 +1,4 @@
+-- `with_number` meets its contract. The invariant: the digits still to come, in front of what is placed, are the text wanted, and there is room for them. The measure is the number left.
 use mathlib.Core.Path.{_≡_, refl, sym, _∙_}
 use mathlib.Core.List.{_++_}
 use Prim.Native.Nat.{_≤_, _<_, _^_}
@@ -10,8 +11,6 @@ use Rattle.amount.specs.Digits.{decimal}
 use Rattle.amount.specs.WriteLaws.{digit-placed, number-placed, digits-room}
 use Rattle.amount.proofs.writer.with_number.Statement.{statement}
 use Rattle.amount.proofs.writer.with_number.Tie as tie
-use Rattle.amount.proofs.writer.with_number.Reads as reads
-use Rattle.amount.proofs.writer.with_number.Lts as lts
 
 abbrev Inv-loop : tie.InvT-loop
 Inv-loop n bytes₀ i₀ rest₀ bytes i rest =
@@ -20,32 +19,25 @@ Inv-loop n bytes₀ i₀ rest₀ bytes i rest =
 abbrev μ-loop : tie.MeasureT-loop
 μ-loop n bytes₀ i₀ rest₀ bytes i rest = rest
 
--- src/writer.rt:81:5
 loop-holds : tie.Need-loop-holds Inv-loop μ-loop
 loop-holds c =
     (search needs, omega arith, omega arith, lt-of-lt-of-le (c .before .pre .0) (pow-le-pow-right {n = 10} (lit< tt) {i = 11} (omega arith)), refl)
 
--- src/writer.rt:82:9
 sub-i : tie.Need-sub-i Inv-loop μ-loop
 sub-i c = omega arith
 
--- src/writer.rt:83:25
 cast-bytes : tie.Need-cast-bytes Inv-loop μ-loop
 cast-bytes c = omega arith
 
--- src/writer.rt:83:20
 add-bytes : tie.Need-add-bytes Inv-loop μ-loop
 add-bytes c = omega arith
 
--- src/writer.rt:83:9
 array-write-bytes : tie.Need-array-write-bytes Inv-loop μ-loop
 array-write-bytes c = omega arith
 
--- src/writer.rt:81:5
 loop-less : tie.Need-loop-less Inv-loop μ-loop
 loop-less c = omega arith
 
--- src/writer.rt:81:5
 loop-again : tie.Need-loop-again Inv-loop μ-loop
 loop-again c =
     let h = c .before .loop .inv in
@@ -53,23 +45,18 @@ loop-again c =
     let l : c .before .loop .i ≤ length (c .before .loop .bytes) = omega arith in
     (simp length-set (h .0), omega arith, omega arith, r .1, h .4 ∙ digit-placed _ _ _ (h .1) l (c .loop-test .taken))
 
--- src/writer.rt:86:5
 sub-i-2 : tie.Need-sub-i-2 Inv-loop μ-loop
 sub-i-2 c = omega arith
 
--- src/writer.rt:87:21
 cast-bytes-2 : tie.Need-cast-bytes-2 Inv-loop μ-loop
 cast-bytes-2 c = omega arith
 
--- src/writer.rt:87:16
 add-bytes-2 : tie.Need-add-bytes-2 Inv-loop μ-loop
 add-bytes-2 c = omega arith
 
--- src/writer.rt:87:5
 array-write-bytes-2 : tie.Need-array-write-bytes-2 Inv-loop μ-loop
 array-write-bytes-2 c = omega arith
 
--- src/writer.rt:74:1
 returns : tie.Need-returns Inv-loop μ-loop
 returns c =
     let h = c .before .loop .inv in
