@@ -1,5 +1,5 @@
 -- How the reader's steps follow the grammar of Amount.antt.
-use mathlib.Core.Path.{_≡_, refl, sym, _∙_}
+use mathlib.Core.Path.{_≡_, refl, sym}
 use mathlib.Core.Bool.{Bool, true, false, _&&_, cond, and-false}
 use mathlib.Core.List.{List, [], _∷_}
 use Prim.Native.Nat.{ℕ, suc, _+_, _-_, _*_, _^_, _<_, _≤_}
@@ -9,15 +9,15 @@ use native.Mathlib.Omega.{arith}
 use borrow.Author.Tests.{leb-true}
 use lib.Dec.{eqb, leb, ltb}
 use lib.ListN.{length, take, drop, getD, length-drop, drop-of-length-le}
-use lib.Seq.{take-all, drop-cons, drop-drop}
+use lib.Seq.{take-all, drop-cons}
 use Rattle.amount.specs.declared.DigitRun.the-variants.{Digits, Outside}
 use Rattle.amount.specs.declared.ReadAmount.the-variants.{Refused}
 use Rattle.amount.specs.declared.UnitFound.{UnitFound}
 use Rattle.amount.specs.declared.UnitFound.the-variants.{Is, Nothing}
 use Rattle.amount.specs.Digits.{isDigit, leading, following, number, numberAfter}
 use Rattle.amount.specs.DigitLaws.{both, number-append, number-after, number-below, drop-leading, length-leading}
-use Rattle.amount.specs.Amount.{noAmount, within, leadingZero, isMark, unitAfter, withUnit, afterWhole, parse, amountParsed}
-use Rattle.amount.specs.Steps.{runOf, sized}
+use Rattle.amount.specs.Amount.{fractionDigits, noAmount, within, leadingZero, isMark, unitAfter, withUnit, afterWhole, parse, amountParsed}
+use Rattle.amount.specs.Steps.{runOf, sized, afterMark}
 
 -- A part of a slice that goes on to its end.
 pub part-end : (t : List ℕ) (n : ℕ) → take (length t - n) (drop n t) ≡ drop n t
@@ -101,21 +101,29 @@ module _ (t : List ℕ) {n whole : ℕ} (en : n ≡ length (leading t)) (ew : wh
   nothing-after e = rw (rest, drop-of-length-le t (le-of-eq (sym e)))
 
   module _ {m : Bool} (l : n < length t) (em : m ≡ isMark (getD t n 0)) where
-    pub fraction-inside : {places fraction : ℕ} → Run 9 (leading (drop (n + 1) t)) places fraction → n + 1 + places ≤ length t
-    fraction-inside r = omega (arith, r .count, length-leading (drop (n + 1) t), length-drop (n + 1) t)
-
     pub no-mark : m ≡ false → amountParsed (afterWhole (leading t) (following t)) ≡ sized (whole * 10 ^ 0 + 0) 0 (unitAfter (drop n t))
     unfolding afterWhole numberAfter
     no-mark h = rw (rest, drop-cons t n 0 l, ← em, h, ew) (amount-sized (leading t) [] (unitAfter (getD t n 0 ∷ drop (suc n) t)))
 
-    pub no-fraction : m ≡ true → runOf 9 (leading (drop (n + 1) t)) ≡ Outside → amountParsed (afterWhole (leading t) (following t)) ≡ Refused 22
-    unfolding afterWhole
-    no-fraction h r = rw (rest, drop-cons t n 0 l, ← em, h, ← add-one n, run-missed 9 _ r)
+    pub mark-on : m ≡ true → amountParsed (afterWhole (leading t) (following t)) ≡ afterMark whole (drop (n + 1) t)
+    unfolding afterWhole afterMark
+    mark-on h = rw (rest, drop-cons t n 0 l, ← em, h, ← add-one n, ew) (go (fractionDigits f))
+      where
+        f : List ℕ
+        f = leading (drop (n + 1) t)
 
-    pub fraction-on : {places fraction : ℕ} → m ≡ true → Run 9 (leading (drop (n + 1) t)) places fraction
-        → amountParsed (afterWhole (leading t) (following t)) ≡ sized (whole * 10 ^ places + fraction) places (unitAfter (drop (n + 1 + places) t))
-    unfolding afterWhole
-    fraction-on {places} {fraction} h r =
-        rw (rest, drop-cons t n 0 l, ← em, h, ← add-one n, r .fits, ew)
-        (amount-sized (leading t) (leading (drop (n + 1) t)) (unitAfter (following (drop (n + 1) t)))
-        ∙ rw (r .count, r .value, ← drop-leading (drop (n + 1) t), r .count, drop-drop places (n + 1) t))
+        go : (b : Bool) → amountParsed (cond b (withUnit (leading t) f (unitAfter (following (drop (n + 1) t)))) noAmount)
+            ≡ cond b (sized (number (leading t) * 10 ^ length f + number f) (length f) (unitAfter (following (drop (n + 1) t)))) (Refused 22)
+        go true = amount-sized (leading t) f (unitAfter (following (drop (n + 1) t)))
+        go false = refl
+
+-- What may follow the mark.
+module _ (whole : ℕ) (t : List ℕ) where
+  pub no-fraction : runOf 9 (leading t) ≡ Outside → afterMark whole t ≡ Refused 22
+  unfolding afterMark
+  no-fraction r = rw (run-missed 9 (leading t) r)
+
+  pub fraction-on : {places fraction : ℕ} → Run 9 (leading t) places fraction
+      → afterMark whole t ≡ sized (whole * 10 ^ places + fraction) places (unitAfter (drop places t))
+  unfolding afterMark
+  fraction-on r = rw (r .fits, r .count, r .value, ← drop-leading t, r .count)

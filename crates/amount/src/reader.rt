@@ -6,7 +6,7 @@ ghost use lib.Dec.{eqb, ltb};
 ghost use lib.ListN.{length, getD};
 ghost use Rattle.amount.specs.Amount.{afterWhole, amountOf, amountParsed, counted, isMark, sizeOf, unitAfter};
 ghost use Rattle.amount.specs.Digits.{following, leading, number};
-ghost use Rattle.amount.specs.Steps.{sized};
+ghost use Rattle.amount.specs.Steps.{afterMark, sized};
 use crate::ByteUnit;
 use crate::Cap;
 use crate::DigitRun;
@@ -77,6 +77,16 @@ fn is_mark(b: u8) -> bool
     b == 46
 }
 
+// The amount whose whole digits and mark are read: the fraction's digits, then the unit.
+fn after_mark(rest: &[u8], whole: u64) -> ReadAmount
+    ensures { λ r. ⌜ r ≡ afterMark whole (now (rest .entry)) ⌝ }
+{
+    let DigitRun::Digits(places, fraction) = digit_run(rest, 9) else {
+        return ReadAmount::Refused(TEXT);
+    };
+    finish(&rest[places..], whole, fraction, places)
+}
+
 // The amount whose n whole digits are read: an optional fraction, then the unit.
 fn after_whole(text: &[u8], n: usize, whole: u64) -> ReadAmount
     requires { ⌜ (n ≡ length (leading (now text))) × (whole ≡ number (leading (now text))) ⌝ }
@@ -89,11 +99,7 @@ fn after_whole(text: &[u8], n: usize, whole: u64) -> ReadAmount
         return finish(&text[n..], whole, 0, 0);
     }
     let at = n + 1;
-    let DigitRun::Digits(places, fraction) = digit_run(&text[at..], 9) else {
-        return ReadAmount::Refused(TEXT);
-    };
-    let end = at + places;
-    finish(&text[end..], whole, fraction, places)
+    after_mark(&text[at..], whole)
 }
 
 // The cap that a text names, or 22, 23 or 24.
