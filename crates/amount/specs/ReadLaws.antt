@@ -11,12 +11,14 @@ use lib.Dec.{eqb, leb, ltb}
 use lib.ListN.{length, take, drop, getD, length-drop, drop-of-length-le}
 use lib.Seq.{take-all, drop-cons}
 use Rattle.amount.specs.declared.DigitRun.the-variants.{Digits, Outside}
-use Rattle.amount.specs.declared.ReadAmount.the-variants.{Refused}
+use Rattle.amount.specs.declared.ReadAmount.the-variants.{Read, Refused}
 use Rattle.amount.specs.declared.UnitFound.{UnitFound}
 use Rattle.amount.specs.declared.UnitFound.the-variants.{Is, Nothing}
 use Rattle.amount.specs.Digits.{isDigit, leading, following, number, numberAfter}
 use Rattle.amount.specs.DigitLaws.{both, number-append, number-after, number-below, drop-leading, length-leading}
-use Rattle.amount.specs.Amount.{fractionDigits, noAmount, within, leadingZero, isMark, unitAfter, withUnit, afterWhole, parse, amountParsed}
+use Rattle.amount.specs.Bytes.{same}
+use Rattle.amount.specs.declared.Cap.the-variants.{Unlimited}
+use Rattle.amount.specs.Amount.{unlimitedText, amountOf, fractionDigits, noAmount, within, leadingZero, isMark, unitAfter, withUnit, afterWhole, parse, amountParsed}
 use Rattle.amount.specs.Steps.{runOf, sized, afterMark}
 
 -- A part of a slice that goes on to its end.
@@ -69,6 +71,16 @@ first-leading (b ∷ t) h = go (isDigit b) h
 pub amount-sized : (w f : List ℕ) (r : UnitFound) → amountParsed (withUnit w f r) ≡ sized (number w * 10 ^ length f + number f) (length f) r
 amount-sized w f (Is u) = rw (number-append 0 w f, number-after (number w) f)
 amount-sized w f Nothing = refl
+
+-- The word, and every other text.
+module _ (t : List ℕ) {b : Bool} (e : b ≡ same t unlimitedText) where
+  pub word-read : b ≡ true → amountOf t ≡ Read Unlimited
+  unfolding amountOf
+  word-read h = rw (← e, h)
+
+  pub word-other : b ≡ false → amountOf t ≡ amountParsed (parse t)
+  unfolding amountOf
+  word-other h = rw (← e, h)
 
 -- Too few or too many whole digits.
 pub parse-outside : (t : List ℕ) → runOf 11 (leading t) ≡ Outside → parse t ≡ noAmount

@@ -2,10 +2,9 @@
 use mathlib.Core.Path.{sym, _∙_}
 use native.Mathlib.Omega.{arith}
 use borrow.Author.Needs.{needs}
+use Rattle.amount.specs.ReadLaws.{word-read, word-other, Run, run-found, parse-outside, parse-zero, parse-on}
 use Rattle.amount.specs.Digits.{leading}
 use Rattle.amount.specs.DigitLaws.{length-leading}
-use Rattle.amount.specs.Amount.{amountOf}
-use Rattle.amount.specs.ReadLaws.{Run, run-found, parse-outside, parse-zero, parse-on}
 use Rattle.amount.proofs.reader.read_amount.Statement.{statement}
 use Rattle.amount.proofs.reader.read_amount.Tie as tie
 
@@ -20,8 +19,7 @@ same-bytes-requires : tie.Need-same-bytes-requires
 same-bytes-requires c κs = search needs
 
 returns : tie.Need-returns
-unfolding amountOf
-returns c = rw (← c .before .same-bytes .ensures, c .if1 .taken)
+returns c = sym (word-read _ (c .before .same-bytes .ensures) (c .if1 .taken))
 
 digit-run-requires : tie.Need-digit-run-requires
 digit-run-requires c κs = search needs
@@ -33,27 +31,24 @@ enum-told : tie.Need-enum-told
 enum-told c = search needs
 
 returns-2 : tie.Need-returns-2
-unfolding amountOf
 returns-2 c =
-    rw (← c .before .before .before .before .same-bytes .ensures, c .before .before .before .if1 .left, parse-outside _ (sym (c .before .before .digit-run .ensures) ∙ c .enum-told .given .1))
+    sym (word-other _ (c .before .before .before .before .same-bytes .ensures) (c .before .before .before .if1 .left) ∙ rw (parse-outside _ (sym (c .before .before .digit-run .ensures) ∙ c .enum-told .given .1)))
 
 leading-zero-requires : tie.Need-leading-zero-requires
 leading-zero-requires c κs =
     omega (arith, found c .count, length-leading (c .before .before .before .before .before .before .before .before .args .text .now))
 
 returns-3 : tie.Need-returns-3
-unfolding amountOf
 returns-3 c =
-    rw (← c .before .before .before .before .before .before .before .same-bytes .ensures, c .before .before .before .before .before .before .if1 .left, parse-zero _ (found (c .before .before)) (c .before .leading-zero .ensures) (c .if2 .taken))
+    sym (word-other _ (c .before .before .before .before .before .before .before .same-bytes .ensures) (c .before .before .before .before .before .before .if1 .left) ∙ rw (parse-zero _ (found (c .before .before)) (c .before .leading-zero .ensures) (c .if2 .taken)))
 
 after-whole-requires : tie.Need-after-whole-requires
 after-whole-requires c κs = (sym (found (c .before .before) .count), sym (found (c .before .before) .value))
 
 returns-4 : tie.Need-returns-4
-unfolding amountOf
 returns-4 c =
     c .after-whole .ensures
-    ∙ rw (← c .before .before .before .before .before .before .before .before .same-bytes .ensures, c .before .before .before .before .before .before .before .if1 .left, parse-on _ (found (c .before .before .before)) (c .before .before .leading-zero .ensures) (c .before .if2 .left))
+    ∙ sym (word-other _ (c .before .before .before .before .before .before .before .before .same-bytes .ensures) (c .before .before .before .before .before .before .before .if1 .left) ∙ rw (parse-on _ (found (c .before .before .before)) (c .before .before .leading-zero .ensures) (c .before .if2 .left)))
 
 pub read-amount-spec : {M : Type 1} → statement M
 read-amount-spec =
