@@ -1,12 +1,12 @@
--- Reading what was written gives the cap again, for every cap that can be written.
-use mathlib.Core.Path.{_≡_, refl, _∙_}
-use mathlib.Core.Bool.{Bool, true, false, cond, and-false}
+-- What is promised of writing: the unit is the largest that divides the count, and reading what was written gives the cap again.
+use mathlib.Core.Path.{_≡_, refl, sym, _∙_}
+use mathlib.Core.Bool.{Bool, true, false, cond, and-false, false≢true}
 use mathlib.Core.List.{List, [], _∷_, _++_, append-nil}
 use Prim.Native.Nat.{ℕ, zero, suc, _/_, _%_, _^_, _<_, _≤_}
 use native.Mathlib.Nat.{mul-one, div-add-mod', div-le-self, mod-one}
 use native.Mathlib.Omega.{arith}
 use borrow.Author.Tests.{eqb-true, ltb-false, ne-eqb, le-leb}
-use lib.Dec.{eqb, ltb}
+use lib.Dec.{eqb, ltb, lit≤}
 use lib.ListN.{length, take, drop, getD}
 use lib.Seq.{take-at}
 use Rattle.amount.specs.declared.ByteUnit.{ByteUnit}
@@ -14,32 +14,14 @@ use Rattle.amount.specs.declared.ByteUnit.the-variants.{B, KiB, MiB, GiB
 use Rattle.amount.specs.declared.Cap.{Cap}
 use Rattle.amount.specs.declared.Cap.the-variants.{Unlimited, Bytes}
 use Rattle.amount.specs.declared.ReadAmount.the-variants.{Read}
-use Rattle.amount.specs.declared.UnitFound.the-variants.{Is}
 use Rattle.amount.specs.declared.Written.the-variants.{Length, Refused as WrittenRefused}
-use Rattle.amount.specs.Bytes.{same}
-use Rattle.amount.specs.Digits.{leading, following, decimalWithin, decimal}
-use Rattle.amount.specs.DecimalLaws.{decimal-digits, decimal-number, decimal-some, decimal-length, decimal-first, leading-append, following-append}
-use Rattle.amount.specs.Amount.{tooLarge, limit, space, unlimitedText, sizeOf, nameOf, leadingZero, wholeDigits, amount, unitNamed, unitAfter, afterWhole, parse, amountOf}
+use Rattle.amount.specs.Digits.{decimalWithin, decimal}
+use Rattle.amount.specs.DecimalLaws.{decimal-digits, decimal-number, decimal-some, decimal-length, decimal-first}
+use Rattle.amount.specs.Amount.{tooLarge, limit, space, unlimitedText, sizeOf, nameOf, leadingZero, wholeDigits, amount, parse, amountOf}
+use Rattle.amount.specs.AmountLaws.{size-most}
 use Rattle.amount.specs.AmountTheorems.{Exactly, read-exactly, unlimited-exactly}
+use Rattle.amount.specs.Grammar.{plain, parse-spelled}
 use Rattle.amount.specs.Writing.{room, divides, unitFor, textOf, aboveLimit, writtenOf, bufferAfter}
-
--- Every unit is read back by its name.
-unit-back : (u : ByteUnit) → unitAfter (space ∷ nameOf u) ≡ Is u
-unfolding unitAfter unitNamed same
-unit-back B = refl
-unit-back KiB = refl
-unit-back MiB = refl
-unit-back GiB = refl
-
--- A space ends the digits.
-module _ (n : ℕ) (t : List ℕ) where
-  leading-decimal : leading (decimal n ++ (space ∷ t)) ≡ decimal n
-  unfolding leading
-  leading-decimal = leading-append (decimal n) (space ∷ t) (decimal-digits n) ∙ append-nil (decimal n)
-
-  following-decimal : following (decimal n ++ (space ∷ t)) ≡ space ∷ t
-  unfolding following
-  following-decimal = following-append (decimal n) (space ∷ t) (decimal-digits n)
 
 -- The digits of a number have no leading 0, but for those of 0.
 decimal-no-zero : (n : ℕ) → leadingZero (decimal n) ≡ false
@@ -52,11 +34,10 @@ decimal-whole n h = rw (le-leb 1 (length (decimal n)) (decimal-some n), le-leb (
 
 -- A written text is taken by the grammar: its number, no fraction, its unit.
 parse-back : (u : ByteUnit) (n : ℕ) → n < 10 ^ 11 → parse (decimal n ++ (space ∷ nameOf u)) ≡ amount (decimal n) [] u
-unfolding parse afterWhole
-parse-back u n h = rw (leading-decimal n (nameOf u), following-decimal n (nameOf u), decimal-whole n h, unit-back u)
+parse-back u n h = parse-spelled (plain (decimal-digits n) (decimal-whole n h))
 
 -- The unit that is chosen divides the count.
-unit-divides : (n : ℕ) → n % sizeOf (unitFor n) ≡ 0
+pub unit-divides : (n : ℕ) → n % sizeOf (unitFor n) ≡ 0
 unfolding unitFor
 unit-divides n = go (eqb n 0) (divides GiB n) (divides MiB n) (divides KiB n) refl refl refl
   where
@@ -67,6 +48,24 @@ unit-divides n = go (eqb n 0) (divides GiB n) (divides MiB n) (divides KiB n) re
     go false false true k eg em ek = eqb-true _ _ em
     go false false false true eg em ek = eqb-true _ _ ek
     go false false false false eg em ek = mod-one n
+
+-- And no larger unit divides it, unless the count is 0.
+pub unit-largest : (n : ℕ) (v : ByteUnit) → (n ≡ 0 → ⊥) → divides v n ≡ true → sizeOf v ≤ sizeOf (unitFor n)
+unfolding unitFor
+unit-largest n v h d = rw (ne-eqb n 0 h) (go (divides GiB n) (divides MiB n) (divides KiB n) refl refl refl v d)
+  where
+    go : (g m k : Bool) → divides GiB n ≡ g → divides MiB n ≡ m → divides KiB n ≡ k → (v : ByteUnit) → divides v n ≡ true
+        → sizeOf v ≤ sizeOf (cond g GiB (cond m MiB (cond k KiB B)))
+    go true m k eg em ek v d = size-most v
+    go false m k eg em ek GiB d = absurd (false≢true (sym eg ∙ d))
+    go false true k eg em ek MiB d = lit≤ tt
+    go false true k eg em ek KiB d = lit≤ tt
+    go false true k eg em ek B d = lit≤ tt
+    go false false k eg em ek MiB d = absurd (false≢true (sym em ∙ d))
+    go false false true eg em ek KiB d = lit≤ tt
+    go false false true eg em ek B d = lit≤ tt
+    go false false false eg em ek KiB d = absurd (false≢true (sym ek ∙ d))
+    go false false false eg em ek B d = lit≤ tt
 
 -- The count in that unit is the count again.
 units-exactly : (n : ℕ) → Exactly n (decimal (n / sizeOf (unitFor n))) [] (unitFor n)
