@@ -27,10 +27,10 @@ pub(crate) fn same_bytes(a: &[u8], b: &[u8]) -> bool
 pub(crate) fn is_digit(b: u8) -> bool
     ensures { λ r. ⌜ r ≡ isDigit b ⌝ }
 {
-    if b < 48 {
+    if b < b'0' {
         return false;
     }
-    b <= 57
+    b <= b'9'
 }
 
 // The run that has ended after so many digits.

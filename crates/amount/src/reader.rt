@@ -64,17 +64,17 @@ fn leading_zero(text: &[u8], n: usize) -> bool
     if n <= 1 {
         return false;
     }
-    text[0] == 48
+    text[0] == b'0'
 }
 
 // Whether a byte is a decimal mark.
 fn is_mark(b: u8) -> bool
     ensures { λ r. ⌜ r ≡ isMark b ⌝ }
 {
-    if b == 44 {
+    if b == b',' {
         return true;
     }
-    b == 46
+    b == b'.'
 }
 
 // The amount whose whole digits and mark are read: the fraction's digits, then the unit.

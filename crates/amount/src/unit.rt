@@ -43,7 +43,7 @@ pub(crate) fn unit_after(rest: &[u8]) -> UnitFound
     if rest.len() == 0 {
         return UnitFound::Nothing;
     }
-    if rest[0] != 32 {
+    if rest[0] != b' ' {
         return UnitFound::Nothing;
     }
     unit_named(&rest[1..])

@@ -52,19 +52,19 @@ fn ending(unit: ByteUnit) -> Spelling
 {
     match unit {
         ByteUnit::B => Spelling {
-            bytes: [0, 0, 0, 0, 0, 0, 0, 0, 0, 0, 0, 0, 0, 0, 32, 66],
+            bytes: [0, 0, 0, 0, 0, 0, 0, 0, 0, 0, 0, 0, 0, 0, b' ', b'B'],
             start: 14,
         },
         ByteUnit::KiB => Spelling {
-            bytes: [0, 0, 0, 0, 0, 0, 0, 0, 0, 0, 0, 0, 32, 75, 105, 66],
+            bytes: [0, 0, 0, 0, 0, 0, 0, 0, 0, 0, 0, 0, b' ', b'K', b'i', b'B'],
             start: 12,
         },
         ByteUnit::MiB => Spelling {
-            bytes: [0, 0, 0, 0, 0, 0, 0, 0, 0, 0, 0, 0, 32, 77, 105, 66],
+            bytes: [0, 0, 0, 0, 0, 0, 0, 0, 0, 0, 0, 0, b' ', b'M', b'i', b'B'],
             start: 12,
         },
         ByteUnit::GiB => Spelling {
-            bytes: [0, 0, 0, 0, 0, 0, 0, 0, 0, 0, 0, 0, 32, 71, 105, 66],
+            bytes: [0, 0, 0, 0, 0, 0, 0, 0, 0, 0, 0, 0, b' ', b'G', b'i', b'B'],
             start: 12,
         },
     }
@@ -80,11 +80,11 @@ fn with_number(n: u64, text: Spelling) -> Spelling
     let mut rest = n;
     while 10 <= rest {
         i -= 1;
-        bytes[i] = 48 + (rest % 10) as u8;
+        bytes[i] = b'0' + (rest % 10) as u8;
         rest /= 10;
     }
     i -= 1;
-    bytes[i] = 48 + rest as u8;
+    bytes[i] = b'0' + rest as u8;
     Spelling { bytes, start: i }
 }
 
@@ -103,15 +103,15 @@ fn spelled(cap: Cap) -> Spelling
                 0,
                 0,
                 0,
-                117,
-                110,
-                108,
-                105,
-                109,
-                105,
-                116,
-                101,
-                100,
+                b'u',
+                b'n',
+                b'l',
+                b'i',
+                b'm',
+                b'i',
+                b't',
+                b'e',
+                b'd',
             ],
             start: 7,
         },
