@@ -1,0 +1,18 @@
+-- Typed amounts. Amount and Writing are the definitions that the two contracts cite, over Bytes and Digits.
+-- What is proved of them: Cases, the paper's worked cases; Grammar, which texts are taken; AmountTheorems, that the
+-- number is right; RoundTrip, that reading undoes writing. The others are for the proofs of the code.
+pub mod Bytes
+pub mod Digits
+pub mod Amount
+pub mod Writing
+pub mod Cases
+pub mod Grammar
+pub mod AmountTheorems
+pub mod RoundTrip
+pub mod Steps
+pub mod DigitLaws
+pub mod DecimalLaws
+pub mod AmountLaws
+pub mod StepLaws
+pub mod ReadLaws
+pub mod WriteLaws
