@@ -11,7 +11,7 @@ use Rattle.amount.specs.declared.ReadAmount.{ReadAmount}
 use Rattle.amount.specs.declared.ReadAmount.the-variants.{Read, Refused}
 use Rattle.amount.specs.declared.UnitFound.{UnitFound}
 use Rattle.amount.specs.declared.UnitFound.the-variants.{Is, Nothing}
-use Rattle.amount.specs.Bytes.{bytes, same}
+use Rattle.lists.specs.Bytes.{bytes, sameBytes}
 use Rattle.amount.specs.Digits.{leading, following, number}
 
 -- The refusal numbers of reading: 22 TEXT, 23 NOT WHOLE, 24 TOO LARGE.
@@ -62,10 +62,10 @@ nameOf GiB = bytes "GiB"
 -- The unit that has this name.
 unfoldable pub unitNamed : List ℕ → UnitFound
 unitNamed t =
-    cond (same t (nameOf B)) (Is B)
-    (cond (same t (nameOf KiB)) (Is KiB)
-    (cond (same t (nameOf MiB)) (Is MiB)
-    (cond (same t (nameOf GiB)) (Is GiB) Nothing)))
+    cond (sameBytes t (nameOf B)) (Is B)
+    (cond (sameBytes t (nameOf KiB)) (Is KiB)
+    (cond (sameBytes t (nameOf MiB)) (Is MiB)
+    (cond (sameBytes t (nameOf GiB)) (Is GiB) Nothing)))
 
 -- What a text is by the grammar: whole digits, fraction digits and a unit; or none of it.
 pub data Parsed : Type 0 where
@@ -128,4 +128,4 @@ amountParsed noAmount = Refused textRefusal
 
 -- The cap that a text names, or the refusal.
 unfoldable pub amountOf : List ℕ → ReadAmount
-amountOf t = cond (same t unlimitedText) (Read Unlimited) (amountParsed (parse t))
+amountOf t = cond (sameBytes t unlimitedText) (Read Unlimited) (amountParsed (parse t))

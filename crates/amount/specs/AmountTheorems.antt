@@ -14,9 +14,9 @@ use Rattle.amount.specs.declared.ByteUnit.{ByteUnit}
 use Rattle.amount.specs.declared.Cap.the-variants.{Unlimited, Bytes}
 use Rattle.amount.specs.declared.ReadAmount.{ReadAmount}
 use Rattle.amount.specs.declared.ReadAmount.the-variants.{Read, Refused}
-use Rattle.amount.specs.Bytes.{same}
+use Rattle.lists.specs.Bytes.{sameBytes}
 use Rattle.amount.specs.Digits.{number, leading, following}
-use Rattle.amount.specs.DigitLaws.{same-eq, same-refl}
+use Rattle.lists.specs.ByteLaws.{same-eq, same-self}
 use Rattle.amount.specs.Amount.{limit, unlimitedText, sizeOf, Parsed, amount, noAmount, parse, counted, amountParsed, amountOf}
 use Rattle.amount.specs.AmountLaws.{power-pos, counted-part, counted-above, counted-read}
 
@@ -70,16 +70,16 @@ module _ (n p : ℕ) (h : 0 < p) where
           (rw (← q) (whole n p d), rw (← q) l)
 
 -- The word for no limit is not an amount by the grammar.
-word-no-amount : (t : List ℕ) → same t unlimitedText ≡ true → parse t ≡ noAmount
+word-no-amount : (t : List ℕ) → sameBytes t unlimitedText ≡ true → parse t ≡ noAmount
 unfolding parse leading following
 word-no-amount t e = rw (same-eq t unlimitedText e)
 
 -- A text that the grammar takes is no word.
 parsed-counted : (t w f : List ℕ) (u : ByteUnit) → parse t ≡ amount w f u → amountOf t ≡ counted (number (w ++ f) * sizeOf u) (10 ^ length f)
 unfolding amountOf
-parsed-counted t w f u e = go (same t unlimitedText) refl
+parsed-counted t w f u e = go (sameBytes t unlimitedText) refl
   where
-    go : (b : Bool) → same t unlimitedText ≡ b → cond b (Read Unlimited) (amountParsed (parse t)) ≡ counted (number (w ++ f) * sizeOf u) (10 ^ length f)
+    go : (b : Bool) → sameBytes t unlimitedText ≡ b → cond b (Read Unlimited) (amountParsed (parse t)) ≡ counted (number (w ++ f) * sizeOf u) (10 ^ length f)
     go true q = absurd (let h : noAmount ≡ amount w f u = sym (word-no-amount t q) ∙ e in let z : _≡_ {A = ℕ} 0 1 = cc in omega arith)
     go false q = rw e
 
@@ -124,21 +124,21 @@ module _ (t : List ℕ) where
   -- 22 exactly where the text is neither the word nor an amount by the grammar.
   pub text-refused-exactly : (amountOf t ≡ Refused 22) ↔ ((t ≡ unlimitedText → ⊥) × (parse t ≡ noAmount))
   unfolding amountOf
-  text-refused-exactly = (to (same t unlimitedText) refl, λ s. from s (same t unlimitedText) refl)
+  text-refused-exactly = (to (sameBytes t unlimitedText) refl, λ s. from s (sameBytes t unlimitedText) refl)
     where
-      to : (b : Bool) → same t unlimitedText ≡ b → cond b (Read Unlimited) (amountParsed (parse t)) ≡ Refused 22 → (t ≡ unlimitedText → ⊥) × (parse t ≡ noAmount)
+      to : (b : Bool) → sameBytes t unlimitedText ≡ b → cond b (Read Unlimited) (amountParsed (parse t)) ≡ Refused 22 → (t ≡ unlimitedText → ⊥) × (parse t ≡ noAmount)
       to true q e = absurd (let z : _≡_ {A = ℕ} 0 1 = cc in omega arith)
-      to false q e = (λ w. false≢true (sym q ∙ rw w (same-refl unlimitedText)), parsed-22 (parse t) e)
+      to false q e = (λ w. false≢true (sym q ∙ rw w (same-self unlimitedText)), parsed-22 (parse t) e)
 
-      from : (t ≡ unlimitedText → ⊥) × (parse t ≡ noAmount) → (b : Bool) → same t unlimitedText ≡ b → cond b (Read Unlimited) (amountParsed (parse t)) ≡ Refused 22
+      from : (t ≡ unlimitedText → ⊥) × (parse t ≡ noAmount) → (b : Bool) → sameBytes t unlimitedText ≡ b → cond b (Read Unlimited) (amountParsed (parse t)) ≡ Refused 22
       from s true q = absurd (s .0 (same-eq t unlimitedText q))
       from s false q = rw (s .1)
 
   -- No limit exactly where the text is the word.
   pub unlimited-exactly : (amountOf t ≡ Read Unlimited) ↔ (t ≡ unlimitedText)
   unfolding amountOf
-  unlimited-exactly = (to (same t unlimitedText) refl, λ w. rw (w, same-refl unlimitedText))
+  unlimited-exactly = (to (sameBytes t unlimitedText) refl, λ w. rw (w, same-self unlimitedText))
     where
-      to : (b : Bool) → same t unlimitedText ≡ b → cond b (Read Unlimited) (amountParsed (parse t)) ≡ Read Unlimited → t ≡ unlimitedText
+      to : (b : Bool) → sameBytes t unlimitedText ≡ b → cond b (Read Unlimited) (amountParsed (parse t)) ≡ Read Unlimited → t ≡ unlimitedText
       to true q e = same-eq t unlimitedText q
       to false q e = absurd (parsed-unlimited (parse t) e)

@@ -5,7 +5,7 @@ use Prim.Native.String.{String}
 use Rattle.amount.specs.declared.Cap.the-variants.{Bytes}
 use Rattle.amount.specs.declared.ReadAmount.{ReadAmount}
 use Rattle.amount.specs.declared.ReadAmount.the-variants.{Read, Refused}
-use Rattle.amount.specs.Bytes.{bytes, same}
+use Rattle.lists.specs.Bytes.{bytes, sameBytes}
 use Rattle.amount.specs.Digits.{leading, following, numberAfter}
 use Rattle.amount.specs.Amount.{amountOf, parse, afterWhole, unitAfter, unitNamed, counted}
 
@@ -32,5 +32,5 @@ abbrev pub stated : Case → ReadAmount
 stated c = c .answer
 
 pub cases-hold : map given cases ≡ map stated cases
-unfolding amountOf parse afterWhole unitAfter unitNamed counted same leading following numberAfter
+unfolding amountOf parse afterWhole unitAfter unitNamed counted sameBytes leading following numberAfter
 cases-hold = refl

@@ -1,4 +1,4 @@
--- Laws of the definitions in Bytes.antt and Digits.antt.
+-- Laws of the definitions in Digits.antt.
 use mathlib.Core.Path.{_≡_, refl, ap, sym, _∙_}
 use mathlib.Core.Bool.{Bool, true, false, _&&_, and-false, false≢true, cond}
 use mathlib.Core.List.{List, [], _∷_, _++_}
@@ -10,42 +10,12 @@ use borrow.Author.Tests.{eqb-true, eq-eqb, leb-true}
 use lib.Dec.{eqb, leb, lit<}
 use lib.ListN.{length, take, drop, getD, length-append}
 use lib.Seq.{drop-cons, take-append-seam, drop-append-seam}
-use Rattle.amount.specs.Bytes.{same}
 use Rattle.amount.specs.Digits.{isDigit, leading, following, numberAfter, number}
 
 -- Both of two tests that hold together.
 pub both : (a b : Bool) → (a && b) ≡ true → (a ≡ true) × (b ≡ true)
 both true b h = (refl, h)
 both false b h = absurd (false≢true h)
-
--- Equal texts.
-pub same-refl : (a : List ℕ) → same a a ≡ true
-unfolding same
-same-refl [] = refl
-same-refl (x ∷ xs) = rw (eq-eqb x x refl) (same-refl xs)
-
-pub same-eq : (a b : List ℕ) → same a b ≡ true → a ≡ b
-unfolding same
-same-eq [] [] h = refl
-same-eq [] (y ∷ ys) h = absurd (let z : _≡_ {A = ℕ} 0 1 = cc in omega arith)
-same-eq (x ∷ xs) [] h = absurd (let z : _≡_ {A = ℕ} 0 1 = cc in omega arith)
-same-eq (x ∷ xs) (y ∷ ys) h =
-    let p = both (eqb x y) (same xs ys) h in
-    let e : x ≡ y = eqb-true x y (p .0) in
-    let t : xs ≡ ys = same-eq xs ys (p .1) in
-    cc
-
-pub same-step : (a b : List ℕ) (i : ℕ) → i < length a → i < length b
-    → same (drop i a) (drop i b) ≡ (eqb (getD a i 0) (getD b i 0) && same (drop (i + 1) a) (drop (i + 1) b))
-unfolding same
-same-step a b i ha hb = rw (add-one, drop-cons a i 0, drop-cons b i 0)
-
-pub same-other : (a b : List ℕ) → (length a ≡ length b → ⊥) → same a b ≡ false
-unfolding same
-same-other [] [] h = absurd (h refl)
-same-other [] (y ∷ ys) h = refl
-same-other (x ∷ xs) [] h = refl
-same-other (x ∷ xs) (y ∷ ys) h = rw (same-other xs ys (λ e. h (ap suc e))) (and-false (eqb x y))
 
 -- A digit lies from 48 to 57.
 pub digit-low : (b : ℕ) → isDigit b ≡ true → 48 ≤ b

@@ -11,9 +11,10 @@ use Rattle.amount.specs.declared.ByteUnit.{ByteUnit}
 use Rattle.amount.specs.declared.ByteUnit.the-variants.{B, KiB, MiB, GiB}
 use Rattle.amount.specs.declared.UnitFound.{UnitFound}
 use Rattle.amount.specs.declared.UnitFound.the-variants.{Is, Nothing}
-use Rattle.amount.specs.Bytes.{same}
+use Rattle.lists.specs.Bytes.{sameBytes}
 use Rattle.amount.specs.Digits.{isDigit, leading, following}
-use Rattle.amount.specs.DigitLaws.{same-eq, leading-following}
+use Rattle.amount.specs.DigitLaws.{leading-following}
+use Rattle.lists.specs.ByteLaws.{same-eq}
 use Rattle.amount.specs.DecimalLaws.{leading-append, following-append}
 use Rattle.amount.specs.Amount.{space, comma, point, nameOf, unitNamed, unitAfter, amount, noAmount, wholeDigits, fractionDigits, isMark, withUnit, afterWhole, parse}
 
@@ -33,13 +34,13 @@ pub data Spells (w : List ℕ) (u : ByteUnit) : List ℕ → List ℕ → Type 0
 
 -- A unit is read back by its name, and only by it.
 pub unit-back : (u : ByteUnit) → unitAfter (unitText u) ≡ Is u
-unfolding unitAfter unitNamed same
+unfolding unitAfter unitNamed sameBytes
 unit-back B = refl
 unit-back KiB = refl
 unit-back MiB = refl
 unit-back GiB = refl
 
-pick : (b : Bool) (t n : List ℕ) (v u : ByteUnit) (r : UnitFound) → same t n ≡ b → n ≡ nameOf v → (r ≡ Is u → t ≡ nameOf u) → cond b (Is v) r ≡ Is u → t ≡ nameOf u
+pick : (b : Bool) (t n : List ℕ) (v u : ByteUnit) (r : UnitFound) → sameBytes t n ≡ b → n ≡ nameOf v → (r ≡ Is u → t ≡ nameOf u) → cond b (Is v) r ≡ Is u → t ≡ nameOf u
 pick true t n v u r q k next e = let i : v ≡ u = cc in same-eq t n q ∙ k ∙ ap nameOf i
 pick false t n v u r q k next e = next e
 

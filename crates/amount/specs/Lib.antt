@@ -1,7 +1,6 @@
--- Typed amounts. Amount and Writing are the definitions that the two contracts cite, over Bytes and Digits.
+-- Typed amounts. Amount and Writing are the definitions that the two contracts cite, over Digits.
 -- What is proved of them: Cases, the paper's worked cases; Grammar, which texts are taken; AmountTheorems, that the
 -- number is right; RoundTrip, that reading undoes writing. The others are for the proofs of the code.
-pub mod Bytes
 pub mod Digits
 pub mod Amount
 pub mod Writing

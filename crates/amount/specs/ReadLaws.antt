@@ -16,7 +16,7 @@ use Rattle.amount.specs.declared.UnitFound.{UnitFound}
 use Rattle.amount.specs.declared.UnitFound.the-variants.{Is, Nothing}
 use Rattle.amount.specs.Digits.{isDigit, leading, following, number, numberAfter}
 use Rattle.amount.specs.DigitLaws.{both, number-append, number-after, number-below, drop-leading, length-leading}
-use Rattle.amount.specs.Bytes.{same}
+use Rattle.lists.specs.Bytes.{sameBytes}
 use Rattle.amount.specs.declared.Cap.the-variants.{Unlimited}
 use Rattle.amount.specs.Amount.{unlimitedText, amountOf, fractionDigits, noAmount, within, leadingZero, isMark, unitAfter, withUnit, afterWhole, parse, amountParsed}
 use Rattle.amount.specs.Steps.{runOf, sized, afterMark}
@@ -73,7 +73,7 @@ amount-sized w f (Is u) = rw (number-append 0 w f, number-after (number w) f)
 amount-sized w f Nothing = refl
 
 -- The word, and every other text.
-module _ (t : List ℕ) {b : Bool} (e : b ≡ same t unlimitedText) where
+module _ (t : List ℕ) {b : Bool} (e : b ≡ sameBytes t unlimitedText) where
   pub word-read : b ≡ true → amountOf t ≡ Read Unlimited
   unfolding amountOf
   word-read h = rw (← e, h)

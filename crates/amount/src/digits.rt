@@ -1,27 +1,9 @@
-// Bytes compared, and runs of decimal digits as numbers.
+// Runs of decimal digits as numbers.
 ghost use mathlib.Core.Path.{_≡_};
 ghost use Prim.Native.Nat.{_≤_, _^_};
-ghost use Rattle.amount.specs.Bytes.{same};
 ghost use Rattle.amount.specs.Digits.{isDigit, leading};
 ghost use Rattle.amount.specs.Steps.{endedRun, runOf};
 use crate::DigitRun;
-
-// Whether two slices hold the same bytes.
-pub(crate) fn same_bytes(a: &[u8], b: &[u8]) -> bool
-    ensures { λ r. ⌜ r ≡ same (now (a .entry)) (now (b .entry)) ⌝ }
-{
-    if a.len() != b.len() {
-        return false;
-    }
-    let mut i: usize = 0;
-    while i < a.len() {
-        if a[i] != b[i] {
-            return false;
-        }
-        i += 1;
-    }
-    true
-}
 
 // Whether a byte is one of the digits 0 to 9.
 pub(crate) fn is_digit(b: u8) -> bool

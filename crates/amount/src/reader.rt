@@ -17,7 +17,7 @@ use crate::TEXT;
 use crate::TOO_LARGE;
 use crate::UnitFound;
 use crate::digits::digit_run;
-use crate::digits::same_bytes;
+use lists::same_bytes;
 use crate::digits::ten_to;
 use crate::unit::size;
 use crate::unit::unit_after;

@@ -3,7 +3,7 @@ ghost use mathlib.Core.Path.{_≡_};
 ghost use Rattle.amount.specs.Amount.{sizeOf, unitNamed, unitAfter};
 use crate::ByteUnit;
 use crate::UnitFound;
-use crate::digits::same_bytes;
+use lists::same_bytes;
 
 // The bytes in one of a unit.
 pub(crate) fn size(unit: ByteUnit) -> u64

@@ -1,8 +1,15 @@
--- Comparing lists of bytes. Assumes nothing.
+-- Lists of bytes: those of a quoted text, and comparing. Assumes nothing.
 use mathlib.Core.Bool.{Bool, true, false, _&&_}
 use mathlib.Core.List.{List, [], _∷_}
 use Prim.Native.Nat.{ℕ}
+use Prim.Native.Char.{code}
+use Prim.Native.String.{String, [] as none, _∷_ as _then_}
 use lib.Dec.{eqb}
+
+-- the bytes of a quoted text in ASCII
+abbrev pub bytes : String → List ℕ
+bytes none = []
+bytes (_then_ c s) = code c ∷ bytes s
 
 -- two lists of bytes are the same
 unfoldable pub sameBytes : List ℕ → List ℕ → Bool
