@@ -14,3 +14,17 @@ pub mod Advance
 pub mod SessionCalls
 pub mod Commit
 pub mod Calls
+pub mod Serial
+pub mod Shaped
+pub mod Later
+pub mod NumberLaws
+pub mod FamilyLaws
+pub mod LaterLaws
+pub mod SlotLaws
+pub mod FoundLaws
+pub mod AgainLaws
+pub mod InOrder
+pub mod InOrderLaws
+pub mod SerialLaws
+pub mod StrayChild
+pub mod SerialCase

@@ -1,0 +1,146 @@
+-- Laws of open and stage: one that was accepted is accepted again on later tables that are ready for what it left, with the same answer and the
+-- same slot. Assumes nothing.
+use mathlib.Core.Path.{_≡_, refl, sym, _∙_, ap}
+use mathlib.Core.Bool.{Bool, true, false, _&&_, _||_, true≢false}
+use mathlib.Core.List.{List}
+use Prim.Native.Nat.{ℕ, _≤_, _<_}
+use native.Mathlib.Omega.{arith}
+use native.Mathlib.Decide.{ℕ-discrete, decLt}
+use borrow.Author.Tests.{eq-eqb, ne-eqb, leb-true, ltb-true}
+use lib.Dec.{eqb, leb}
+use lib.ListN.{length, getD}
+use Rattle.lists.specs.Lists.{hit, find, allOf, noClash}
+use Rattle.lists.specs.BoolLaws.{and-left, and-right, and-both, not-both}
+use Rattle.lists.specs.TestLaws.{all-at, clash-at}
+use Rattle.rules.specs.declared.TokenNo.{TokenNo}
+use Rattle.rules.specs.declared.Hash.{Hash}
+use Rattle.rules.specs.declared.Token.{Token}
+use Rattle.rules.specs.declared.Session.{Session}
+use Rattle.rules.specs.declared.Tables.{Tables}
+use Rattle.rules.specs.Fresh.{freshToken}
+use Rattle.rules.specs.Tables.{given, usedToken, freeToken, staged, isPut, volumeOf, tokenOf}
+use Rattle.rules.specs.Outcome.{isAccepted}
+use Rattle.rules.specs.Sound.{isGiven, soundToken, sameToken, soundTokens, soundCounts, soundVolumes, soundEntries, soundRelays, soundTables}
+use Rattle.rules.specs.SessionCalls.{openRule, newPut, stageRule}
+use Rattle.rules.specs.Later.{SameToken, Later, ReadyFor, Ready}
+use Rattle.rules.specs.NumberLaws.{volume-number, token-number, token-used, token-at, token-below}
+use Rattle.rules.specs.FoundLaws.{Opens, openedBy, open-found, open-so, Stages, stage-found, stage-so, stage-put-same, stage-before}
+
+-- A token number that was given stands for the same token, as long as it is in the table.
+tokens-sound : (t : Tables) → soundTables t ≡ true → soundTokens t ≡ true
+unfolding soundTables
+tokens-sound t e =
+    and-right (soundCounts t && soundVolumes t && soundEntries t) (soundTokens t)
+    (and-left (soundCounts t && soundVolumes t && soundEntries t && soundTokens t) (soundRelays t) e)
+
+first-of : (a b c d e f g h : Bool) → (a && b && c && d && e && f && g && h) ≡ true → a ≡ true
+first-of true b c d e f g h p = refl
+first-of false b c d e f g h p = p
+
+second-or : (a b : Bool) → a ≡ false → (a || b) ≡ true → b ≡ true
+second-or true b p q = absurd (true≢false p)
+second-or false b p q = q
+
+used-number : (n : ℕ) → given n ≡ true → eqb n 0 ≡ false
+used-number n g = let h = ltb-true 0 n g in ne-eqb n 0 (λ e. omega arith)
+
+-- a token in the table has a number that was given
+row-given : (t : Tables) (k : Token) → soundToken t k ≡ true → usedToken k ≡ true → k .no .0 ≤ t .«last_token»
+unfolding soundToken
+row-given t k e u =
+    let p = first-of (isGiven (t .«last_token») (k .no .0)) _ _ _ _ _ _ _ (second-or (freeToken k) _ (used-number (k .no .0) u) e) in
+    leb-true (k .no .0) (t .«last_token») (and-right (leb 1 (k .no .0)) (leb (k .no .0) (t .«last_token»)) p)
+
+token-given : (n : TokenNo) (t : Tables) (i : ℕ) (k : Token) → soundTokens t ≡ true → tokenOf n t ≡ hit i k → k .no .0 ≤ t .«last_token»
+unfolding soundTokens
+token-given n t i k e f =
+    let a = all-at (soundToken t) (t .tokens) (and-left (allOf (soundToken t) (t .tokens)) (noClash sameToken (t .tokens)) e) i (token-below n t i k f) freshToken in
+    row-given t k (rw (token-at n t i k f) at a) (token-used n t i k f)
+
+-- no two rows have one number
+same-clash : (a b : Token) → usedToken a ≡ true → b .no ≡ a .no → sameToken a b ≡ false → ⊥
+same-clash a b u e f = not-both (and-both u (eq-eqb (b .no .0) (a .no .0) (ap (λ n. n .0) e))) f
+
+row-order : (t : Tables) (i j : ℕ) → soundTokens t ≡ true → i < j → j < length (t .tokens) → usedToken (getD (t .tokens) i freshToken) ≡ true
+    → getD (t .tokens) j freshToken .no ≡ getD (t .tokens) i freshToken .no → ⊥
+unfolding soundTokens
+row-order t i j e h below u f =
+    same-clash (getD (t .tokens) i freshToken) (getD (t .tokens) j freshToken) u f
+    (clash-at sameToken (t .tokens) (and-right (allOf (soundToken t) (t .tokens)) (noClash sameToken (t .tokens)) e) i j h below freshToken)
+
+row-once : (t : Tables) (i j : ℕ) → soundTokens t ≡ true → i < length (t .tokens) → j < length (t .tokens) → usedToken (getD (t .tokens) i freshToken) ≡ true
+    → getD (t .tokens) j freshToken .no ≡ getD (t .tokens) i freshToken .no → j ≡ i
+row-once t i j e hi hj u f = go (ℕ-discrete j i) (decLt i j)
+  where
+    go : Dec (j ≡ i) → Dec (i < j) → j ≡ i
+    go (yes q) c = q
+    go (no n) (yes h) = absurd (row-order t i j e h hj u f)
+    go (no n) (no h) = absurd (row-order t j i e (omega arith) hi (rw f u) (sym f))
+
+token-same : (n : TokenNo) (t t′ : Tables) (i i′ : ℕ) (k k′ : Token) → soundTokens t ≡ true → Later t t′ → tokenOf n t ≡ hit i k → tokenOf n t′ ≡ hit i′ k′
+    → SameToken k k′
+token-same n t t′ i i′ k k′ e l f f′ =
+    let here = token-at n t i k f in
+    let no : k′ .no ≡ k .no = token-number n t′ i′ k′ f′ ∙ sym (token-number n t i k f) in
+    let same : SameToken (getD (t .tokens) i′ freshToken) k′ =
+    (rw (token-at n t′ i′ k′ f′) at (l .kept i′)) (token-used n t′ i′ k′ f′) (rw no (token-given n t i k e f))
+    in
+    let row = row-once t i i′ e (token-below n t i k f) (rw (l .tokens) at (token-below n t′ i′ k′ f′)) (rw here (token-used n t i k f)) (same .no ∙ no ∙ ap (λ x. x .no) (sym here)) in
+    rw (ap (λ j. getD (t .tokens) j freshToken) row ∙ here) at same
+
+-- An open or a stage, again: accepted on the tables t, and now on later tables t′ that are ready for what it left.
+module _ (t t′ : Tables) (s : Session) (e : soundTables t ≡ true) (l : Later t t′) where
+  opens-later : (n : TokenNo) (o : Opens n t s) → ReadyFor t′ (openedBy o) → (o′ : Opens n t′ s) × (openedBy o′ ≡ openedBy o)
+  opens-later n o r =
+      let found : tokenOf n t′ ≡ hit (r .tokenRow) (r .token) = ap (λ m. tokenOf m t′) (sym (token-number n t (o .tokenRow) (o .token) (o .tokenFound))) ∙ r .tokenFound in
+      let same = token-same n t t′ (o .tokenRow) (r .tokenRow) (o .token) (r .token) (tokens-sound t e) l (o .tokenFound) found in
+      let at-volume = volume-number (o .token .volume) t (o .volumeRow) (o .volume) (o .volumeFound) in
+      let no = volume-number (o .volume .no) t′ (r .volumeRow) (r .volume) (r .volumeFound) in (
+        record {
+          idle = o .idle;
+          tokenRow = r .tokenRow;
+          token = r .token;
+          tokenFound = found;
+          window = r .window;
+          write = rw (same .scope) at (o .write);
+          volumeRow = r .volumeRow;
+          volume = r .volume;
+          volumeFound = ap (λ m. volumeOf m t′) (sym (at-volume ∙ same .volume)) ∙ r .volumeFound;
+          active = r .active;
+        },
+        rw (← same .no, no, r .version),
+      )
+
+  opened-again : (n : TokenNo) (o : Opens n t s) (o′ : Opens n t′ s) → openedBy o′ ≡ openedBy o
+      → (openRule n t′ s .answer ≡ openRule n t s .answer) × (openRule n t′ s .session ≡ openRule n t s .session)
+  opened-again n o o′ same = (rw (open-so n t s o, open-so n t′ s o′), rw (open-so n t s o, open-so n t′ s o′) same)
+
+  pub open-again : (n : TokenNo) → isAccepted (openRule n t s .answer) ≡ true → Ready t′ (openRule n t s .session)
+      → (openRule n t′ s .answer ≡ openRule n t s .answer) × (openRule n t′ s .session ≡ openRule n t s .session)
+  open-again n a ready =
+      let o = open-found n t s a in
+      let r = opens-later n o ((rw (open-so n t s o) at ready) (token-used n t (o .tokenRow) (o .token) (o .tokenFound))) in
+      opened-again n o (r .0) (r .1)
+
+  stages-later : (path : List ℕ) (size : ℕ) → Stages path size t s → Ready t′ s → Stages path size t′ s
+  stages-later path size o ready =
+      let r = ready (o .running) in
+      let same = token-same (s .token) t t′ (o .tokenRow) (r .tokenRow) (o .token) (r .token) (tokens-sound t e) l (o .tokenFound) (r .tokenFound) in
+      record {
+        good = o .good;
+        running = o .running;
+        tokenRow = r .tokenRow;
+        token = r .token;
+        tokenFound = r .tokenFound;
+        covered = rw (same .scope) at (o .covered);
+      }
+
+  staged-again : (path : List ℕ) (size : ℕ) (x : Hash) → Stages path size t s → Stages path size t′ s
+      → (stageRule path size x t′ s .answer ≡ stageRule path size x t s .answer) × (stageRule path size x t′ s .session ≡ stageRule path size x t s .session)
+  staged-again path size x o o′ = rw (stage-so path size x t s o, stage-so path size x t′ s o′) (stage-put-same t t′ s (newPut path size x) (find (isPut path) (staged s)))
+
+  pub stage-again : (path : List ℕ) (size : ℕ) (x : Hash) → isAccepted (stageRule path size x t s .answer) ≡ true → Ready t′ (stageRule path size x t s .session)
+      → (stageRule path size x t′ s .answer ≡ stageRule path size x t s .answer) × (stageRule path size x t′ s .session ≡ stageRule path size x t s .session)
+  stage-again path size x a ready =
+      let o = stage-found path size x t s a in
+      staged-again path size x o (stages-later path size o (stage-before path size x t s a t′ ready))
