@@ -1,14 +1,14 @@
 -- Laws of open and stage: one that was accepted is accepted again on later tables that are ready for what it left, with the same answer and the
 -- same slot. Assumes nothing.
 use mathlib.Core.Path.{_≡_, refl, sym, _∙_, ap}
-use mathlib.Core.Bool.{Bool, true, false, _&&_, _||_, true≢false}
+use mathlib.Core.Bool.{Bool, true, false, _&&_, _||_, false≢true, true≢false}
 use mathlib.Core.List.{List}
 use Prim.Native.Nat.{ℕ, _≤_, _<_}
 use native.Mathlib.Omega.{arith}
 use native.Mathlib.Decide.{ℕ-discrete, decLt}
 use borrow.Author.Tests.{eq-eqb, ne-eqb, leb-true, ltb-true}
 use lib.Dec.{eqb, leb}
-use lib.ListN.{length, getD}
+use lib.ListN.{length, List·getD-eq-default}
 use Rattle.lists.specs.Lists.{hit, find, allOf, noClash}
 use Rattle.lists.specs.BoolLaws.{and-left, and-right, and-both, not-both}
 use Rattle.lists.specs.TestLaws.{all-at, clash-at}
@@ -22,8 +22,8 @@ use Rattle.rules.specs.Tables.{given, usedToken, freeToken, staged, isPu
 use Rattle.rules.specs.Outcome.{isAccepted}
 use Rattle.rules.specs.Sound.{isGiven, soundToken, sameToken, soundTokens, soundCounts, soundVolumes, soundEntries, soundRelays, soundTables}
 use Rattle.rules.specs.SessionCalls.{openRule, newPut, stageRule}
-use Rattle.rules.specs.Later.{SameToken, Later, ReadyFor, Ready}
-use Rattle.rules.specs.NumberLaws.{volume-number, token-number, token-used, token-at, token-below}
+use Rattle.rules.specs.Later.{tokenRow, SameToken, Later, ReadyFor, Ready}
+use Rattle.rules.specs.FindLaws.{volume-number, token-number, token-used, token-at}
 use Rattle.rules.specs.FoundLaws.{Opens, openedBy, open-found, open-so, Stages, stage-found, stage-so, stage-put-same, stage-before}
 
 -- A token number that was given stands for the same token, as long as it is in the table.
@@ -51,42 +51,48 @@ row-given t k e u =
     let p = first-of (isGiven (t .«last_token») (k .no .0)) _ _ _ _ _ _ _ (second-or (freeToken k) _ (used-number (k .no .0) u) e) in
     leb-true (k .no .0) (t .«last_token») (and-right (leb 1 (k .no .0)) (leb (k .no .0) (t .«last_token»)) p)
 
-token-given : (n : TokenNo) (t : Tables) (i : ℕ) (k : Token) → soundTokens t ≡ true → tokenOf n t ≡ hit i k → k .no .0 ≤ t .«last_token»
+-- a row that holds a token is in the table
+row-below : (t : Tables) (j : ℕ) → usedToken (tokenRow t j) ≡ true → j < length (t .tokens)
+row-below t j u = go (decLt j (length (t .tokens)))
+  where
+    go : Dec (j < length (t .tokens)) → j < length (t .tokens)
+    go (yes h) = h
+    go (no h) = absurd (false≢true (rw (List·getD-eq-default (t .tokens) freshToken {n = j} (omega arith)) at u))
+
+token-given : (t : Tables) (i : ℕ) → soundTokens t ≡ true → usedToken (tokenRow t i) ≡ true → tokenRow t i .no .0 ≤ t .«last_token»
 unfolding soundTokens
-token-given n t i k e f =
-    let a = all-at (soundToken t) (t .tokens) (and-left (allOf (soundToken t) (t .tokens)) (noClash sameToken (t .tokens)) e) i (token-below n t i k f) freshToken in
-    row-given t k (rw (token-at n t i k f) at a) (token-used n t i k f)
+token-given t i e u =
+    row-given t (tokenRow t i)
+    (all-at (soundToken t) (t .tokens) (and-left (allOf (soundToken t) (t .tokens)) (noClash sameToken (t .tokens)) e) i (row-below t i u) freshToken)
+    u
 
 -- no two rows have one number
 same-clash : (a b : Token) → usedToken a ≡ true → b .no ≡ a .no → sameToken a b ≡ false → ⊥
 same-clash a b u e f = not-both (and-both u (eq-eqb (b .no .0) (a .no .0) (ap (λ n. n .0) e))) f
 
-row-order : (t : Tables) (i j : ℕ) → soundTokens t ≡ true → i < j → j < length (t .tokens) → usedToken (getD (t .tokens) i freshToken) ≡ true
-    → getD (t .tokens) j freshToken .no ≡ getD (t .tokens) i freshToken .no → ⊥
+row-order : (t : Tables) (i j : ℕ) → soundTokens t ≡ true → i < j → usedToken (tokenRow t i) ≡ true → tokenRow t j .no ≡ tokenRow t i .no → ⊥
 unfolding soundTokens
-row-order t i j e h below u f =
-    same-clash (getD (t .tokens) i freshToken) (getD (t .tokens) j freshToken) u f
-    (clash-at sameToken (t .tokens) (and-right (allOf (soundToken t) (t .tokens)) (noClash sameToken (t .tokens)) e) i j h below freshToken)
+row-order t i j e h u f =
+    same-clash (tokenRow t i) (tokenRow t j) u f
+    (clash-at sameToken (t .tokens) (and-right (allOf (soundToken t) (t .tokens)) (noClash sameToken (t .tokens)) e) i j h (row-below t j (rw f u)) freshToken)
 
-row-once : (t : Tables) (i j : ℕ) → soundTokens t ≡ true → i < length (t .tokens) → j < length (t .tokens) → usedToken (getD (t .tokens) i freshToken) ≡ true
-    → getD (t .tokens) j freshToken .no ≡ getD (t .tokens) i freshToken .no → j ≡ i
-row-once t i j e hi hj u f = go (ℕ-discrete j i) (decLt i j)
+row-once : (t : Tables) (i j : ℕ) → soundTokens t ≡ true → usedToken (tokenRow t i) ≡ true → tokenRow t j .no ≡ tokenRow t i .no → j ≡ i
+row-once t i j e u f = go (ℕ-discrete j i) (decLt i j)
   where
     go : Dec (j ≡ i) → Dec (i < j) → j ≡ i
     go (yes q) c = q
-    go (no n) (yes h) = absurd (row-order t i j e h hj u f)
-    go (no n) (no h) = absurd (row-order t j i e (omega arith) hi (rw f u) (sym f))
+    go (no n) (yes h) = absurd (row-order t i j e h u f)
+    go (no n) (no h) = absurd (row-order t j i e (omega arith) (rw f u) (sym f))
 
+-- so the token that a search finds later is the one that it found before
 token-same : (n : TokenNo) (t t′ : Tables) (i i′ : ℕ) (k k′ : Token) → soundTokens t ≡ true → Later t t′ → tokenOf n t ≡ hit i k → tokenOf n t′ ≡ hit i′ k′
     → SameToken k k′
 token-same n t t′ i i′ k k′ e l f f′ =
     let here = token-at n t i k f in
-    let no : k′ .no ≡ k .no = token-number n t′ i′ k′ f′ ∙ sym (token-number n t i k f) in
-    let same : SameToken (getD (t .tokens) i′ freshToken) k′ =
-    (rw (token-at n t′ i′ k′ f′) at (l .kept i′)) (token-used n t′ i′ k′ f′) (rw no (token-given n t i k e f))
-    in
-    let row = row-once t i i′ e (token-below n t i k f) (rw (l .tokens) at (token-below n t′ i′ k′ f′)) (rw here (token-used n t i k f)) (same .no ∙ no ∙ ap (λ x. x .no) (sym here)) in
-    rw (ap (λ j. getD (t .tokens) j freshToken) row ∙ here) at same
+    let used : usedToken (tokenRow t i) ≡ true = rw here (token-used n t i k f) in
+    let no : k′ .no ≡ tokenRow t i .no = token-number n t′ i′ k′ f′ ∙ sym (token-number n t i k f) ∙ ap (λ x. x .no) (sym here) in
+    let same : SameToken (tokenRow t i′) k′ = (rw (token-at n t′ i′ k′ f′) at (l .kept i′)) (token-used n t′ i′ k′ f′) (rw no (token-given t i e used)) in
+    rw (ap (tokenRow t) (row-once t i i′ e used (same .no ∙ no)) ∙ here) at same
 
 -- An open or a stage, again: accepted on the tables t, and now on later tables t′ that are ready for what it left.
 module _ (t t′ : Tables) (s : Session) (e : soundTables t ≡ true) (l : Later t t′) where

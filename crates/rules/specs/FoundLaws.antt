@@ -24,7 +24,7 @@ use Rattle.rules.specs.VolumeCalls.{isActive}
 use Rattle.rules.specs.SessionCalls.{opened, openVolume, openToken, openRule, newPut, stagePut, stageToken, stageRule}
 use Rattle.rules.specs.Commit.{commitToken, commitVolume, commitRule}
 use Rattle.rules.specs.Later.{ReadyFor, Ready}
-use Rattle.rules.specs.FamilyLaws.{either}
+use Rattle.rules.specs.LaterLaws.{either}
 
 -- An accepted call passed each of its checks.
 pub passed : (t : Tables) (s : Session) (b : Bool) (n : ℕ) (o : SlotOutcome) → eqb n 0 ≡ false → isAccepted (cond b (slotRefused t s n) o .answer) ≡ true

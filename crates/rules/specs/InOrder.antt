@@ -2,23 +2,29 @@
 use mathlib.Core.Path.{_≡_}
 use mathlib.Core.Bool.{true}
 use Prim.Native.Nat.{ℕ}
-use lib.ListN.{length}
+use lib.ListN.{length, getD}
+use Rattle.rules.specs.declared.Session.{Session}
 use Rattle.rules.specs.declared.Desk.{Desk}
 use Rattle.rules.specs.Limits.{slotRows}
+use Rattle.rules.specs.Fresh.{freshSession, freshDesk}
 use Rattle.rules.specs.Sound.{sound}
 use Rattle.rules.specs.Calls.{Call, step}
-use Rattle.rules.specs.Shaped.{ShapedTables, slotOf, Shaped, OneVolume}
-use Rattle.rules.specs.Later.{Families, Tidy}
+use Rattle.rules.specs.Later.{Tidy}
 
--- What is left open here: every call keeps a sound desk sound. Of a desk in which a token is of another volume than its parent this is not so:
--- a delete of the parent's volume leaves the child without its parent (`StrayChild.antt`).
-abbrev pub Stays : Type 0
-Stays = (c : Call) (d : Desk) → sound d ≡ true → Shaped d → OneVolume (d .tables) → sound (step c d .desk) ≡ true
+-- The law that demand 3 rests on: an invariant that holds of a fresh desk and that every call keeps, and where it holds the test of the desk passes.
+-- (That the test passes is no such invariant by itself: a delete takes away the parent of a token that is of another volume.)
+pub record Stays (Holds : Desk → Type 0) : Type 0 where
+  pub fresh : (rate : ℕ) → Holds (freshDesk rate)
+  pub kept : (c : Call) (d : Desk) → Holds d → Holds (step c d .desk)
+  pub passes : (d : Desk) → Holds d → sound d ≡ true
 
--- The desks that are reached from a fresh one.
-pub record InOrder (d : Desk) : Type 0 where
+-- what the slot of this number holds; past the last slot, what a fresh one holds
+abbrev pub slotOf : Desk → ℕ → Session
+slotOf d s = getD (d .sessions) s freshSession
+
+-- the desks that are reached from a fresh one: the invariant, "4 slots, 0..3", and idle slots that are fresh
+pub record InOrder (Holds : Desk → Type 0) (d : Desk) : Type 0 where
+  pub holds : Holds d
   pub passes : sound d ≡ true
-  pub tables : ShapedTables (d .tables)
-  pub families : Families (d .tables)
   pub slots : length (d .sessions) ≡ slotRows
   pub tidy : (s : ℕ) → Tidy (slotOf d s)

@@ -3,6 +3,7 @@
 use mathlib.Core.Path.{_≡_, refl, _∙_, ap}
 use mathlib.Core.Logic.{_≢_}
 use mathlib.Core.Bool.{Bool, true, false, cond, false≢true}
+use mathlib.Core.List.{List, [], _∷_}
 use Prim.Native.Nat.{ℕ, zero, suc, _≤_}
 use native.Mathlib.Decide.{ℕ-discrete}
 use borrow.Author.Tests.{le-leb, leb-false}
@@ -21,15 +22,10 @@ use Rattle.rules.specs.Tables.{usedToken}
 use Rattle.rules.specs.Outcome.{slotRefused, deskRefused}
 use Rattle.rules.specs.Sound.{soundVolume, sameName, soundEntry, sameEntry, soundToken, soundRelay, soundSession, soundVolumes, soundEntries, soundTokens, soundRelays, soundTables, sound}
 use Rattle.rules.specs.Calls.{run, Ask, askRule, Work, workRule, Call, ask, onSlot, withSlot, rule, step}
-use Rattle.rules.specs.Shaped.{ShapedTables, slotOf, Shaped, tokenRow}
 use Rattle.rules.specs.Later.{Later, Tidy}
 use Rattle.rules.specs.LaterLaws.{ask-later}
-use Rattle.rules.specs.SlotLaws.{fresh-tidy, slotRule, slot-does}
-use mathlib.Core.List.{List, [], _∷_}
-use Rattle.rules.specs.InOrder.{Stays, InOrder}
-
-pub shaped : (d : Desk) → InOrder d → Shaped d
-shaped d i = record { tables = i .tables; slots = i .slots; puts = λ s. i .tidy s .puts }
+use Rattle.rules.specs.SlotLaws.{slotRule, slot-does}
+use Rattle.rules.specs.InOrder.{Stays, slotOf, InOrder}
 
 fresh-row : {A : Type 0} (n i : ℕ) (x : A) → getD (replicate n x) i x ≡ x
 fresh-row zero i x = refl
@@ -39,27 +35,14 @@ fresh-row (suc n) (suc i) x = fresh-row n i x
 pub fresh-slot : (s : ℕ) → slotOf (freshDesk 0) s ≡ freshSession
 fresh-slot s = fresh-row slotRows s freshSession
 
-fresh-sound : (rate : ℕ) → sound (freshDesk rate) ≡ true
-unfolding sound soundTables soundVolumes soundEntries soundTokens soundRelays soundVolume soundEntry soundToken soundRelay soundSession sameName sameEntry allOf noClash anyOf
-fresh-sound rate = refl
-
--- no row holds a token
-fresh-unused : (rate : ℕ) (i : ℕ) → usedToken (tokenRow (freshTables rate) i) ≡ true → ⊥
-fresh-unused rate i u = false≢true (rw (fresh-row tokenRows i freshToken) at u)
-
-pub fresh-in-order : (rate : ℕ) → InOrder (freshDesk rate)
-fresh-in-order rate = record {
-  passes = fresh-sound rate;
-  tables = record { volumes = refl; entries = refl; tokens = refl; relays = refl };
-  families = record {
-    given = λ i u. absurd (fresh-unused rate i u);
-    parents = λ i u. absurd (fresh-unused rate i u);
-    once = λ i j u e. absurd (fresh-unused rate i u);
-    near = λ i j u v e. absurd (fresh-unused rate i u);
-  };
-  slots = refl;
-  tidy = λ s. rw (fresh-slot s) fresh-tidy;
-}
+module _ (Holds : Desk → Type 0) (stays : Stays Holds) where
+  pub fresh-in-order : (rate : ℕ) → InOrder Holds (freshDesk rate)
+  fresh-in-order rate = record {
+    holds = stays .fresh rate;
+    passes = stays .passes (freshDesk rate) (stays .fresh rate);
+    slots = refl;
+    tidy = λ s b. fresh-slot s;
+  }
 
 -- a call on the tables leaves the slots
 pub ask-step : (a : Ask) (d : Desk) → sound d ≡ true
@@ -68,7 +51,7 @@ unfolding step rule
 ask-step a d e = rw e
 
 -- a call on a slot leaves the other slots
-module _ (slot : ℕ) (w : Work) (d : Desk) (i : InOrder d) where
+module _ (slot : ℕ) (w : Work) (d : Desk) (passes : sound d ≡ true) (slots : length (d .sessions) ≡ slotRows) where
   abbrev done : SlotOutcome
   done = workRule w (d .tables) (slotOf d slot)
 
@@ -77,7 +60,7 @@ module _ (slot : ℕ) (w : Work) (d : Desk) (i : InOrder d) where
 
   slot-step : step (onSlot slot w) d ≡ after (leb slotRows slot)
   unfolding step rule
-  slot-step = rw (i .passes)
+  slot-step = rw passes
 
   pub slot-answer : step (onSlot slot w) d .answer ≡ slotRule slot w (d .tables) (slotOf d slot) .answer
   slot-answer = ap (λ o. o .answer) slot-step ∙ go (leb slotRows slot)
@@ -98,7 +81,7 @@ module _ (slot : ℕ) (w : Work) (d : Desk) (i : InOrder d) where
     where
       go : (b : Bool) → leb slotRows slot ≡ b → slotOf (after b .desk) slot ≡ cond b (slotRefused (d .tables) (slotOf d slot) BAD) done .session
       go true e = refl
-      go false e = getD-set-same (d .sessions) slot (done .session) freshSession (rw (i .slots) (leb-false slotRows slot e))
+      go false e = getD-set-same (d .sessions) slot (done .session) freshSession (rw slots (leb-false slotRows slot e))
 
   pub slot-others : (s : ℕ) → s ≢ slot → slotOf (step (onSlot slot w) d .desk) s ≡ slotOf d s
   slot-others s n = ap (λ o. slotOf (o .desk) s) slot-step ∙ go (leb slotRows slot)
@@ -107,50 +90,39 @@ module _ (slot : ℕ) (w : Work) (d : Desk) (i : InOrder d) where
       go true = refl
       go false = getD-set-other (d .sessions) slot s (done .session) freshSession n
 
-  slot-count : length (step (onSlot slot w) d .desk .sessions) ≡ slotRows
+  pub slot-count : length (step (onSlot slot w) d .desk .sessions) ≡ slotRows
   slot-count = ap (λ o. length (o .desk .sessions)) slot-step ∙ go (leb slotRows slot)
     where
       go : (b : Bool) → length (after b .desk .sessions) ≡ slotRows
-      go true = i .slots
-      go false = length-set (d .sessions) slot (done .session) ∙ i .slots
+      go true = slots
+      go false = length-set (d .sessions) slot (done .session) ∙ slots
 
-  slot-tidy : (s : ℕ) → Tidy (slotOf (step (onSlot slot w) d .desk) s)
-  slot-tidy s = go (ℕ-discrete s slot)
+  pub slot-tidy : ((s : ℕ) → Tidy (slotOf d s)) → (s : ℕ) → Tidy (slotOf (step (onSlot slot w) d .desk) s)
+  slot-tidy tidy s = go (ℕ-discrete s slot)
     where
       go : Dec (s ≡ slot) → Tidy (slotOf (step (onSlot slot w) d .desk) s)
-      go (yes e) = rw (e, slot-session) (slot-does slot w (d .tables) (slotOf d slot) .tidy (i .tidy slot))
-      go (no n) = rw (slot-others s n) (i .tidy s)
+      go (yes e) = rw (e, slot-session) (slot-does slot w (d .tables) (slotOf d slot) .tidy (tidy slot))
+      go (no n) = rw (slot-others s n) (tidy s)
 
 -- Every call keeps a desk in order.
-shaped-later : (t t′ : Tables) → Later t t′ → ShapedTables t → ShapedTables t′
-shaped-later t t′ l s = record {
-  volumes = l .volumes ∙ s .volumes;
-  entries = l .entries ∙ s .entries;
-  tokens = l .tokens ∙ s .tokens;
-  relays = l .relays ∙ s .relays;
-}
-
-pub stays-in-order : Stays → (c : Call) (d : Desk) → InOrder d → InOrder (step c d .desk)
-stays-in-order stays (ask a) d i = record {
-  passes = stays (ask a) d (i .passes) (shaped d i) (i .families .near);
-  families = rw (ask-step a d (i .passes)) (ask-later a (d .tables) .families (i .families));
-  tables = rw (ask-step a d (i .passes)) (shaped-later (d .tables) _ (ask-later a (d .tables)) (i .tables));
-  slots = rw (ask-step a d (i .passes)) (i .slots);
-  tidy = λ s. rw (ask-step a d (i .passes)) (i .tidy s);
-}
-stays-in-order stays (onSlot slot w) d i = record {
-  passes = stays (onSlot slot w) d (i .passes) (shaped d i) (i .families .near);
-  families = rw (slot-tables slot w d i) (slot-does slot w (d .tables) (slotOf d slot) .later .families (i .families));
-  tables = rw (slot-tables slot w d i) (shaped-later (d .tables) _ (slot-does slot w (d .tables) (slotOf d slot) .later) (i .tables));
-  slots = slot-count slot w d i;
-  tidy = slot-tidy slot w d i;
-}
-
--- and so does every list of calls
-pub run-in-order : Stays → (cs : List Call) (d : Desk) → InOrder d → InOrder (run cs d)
-unfolding run
-run-in-order stays [] d i = i
-run-in-order stays (c ∷ cs) d i = run-in-order stays cs (step c d .desk) (stays-in-order stays c d i)
+module _ (Holds : Desk → Type 0) (stays : Stays Holds) where
+  pub call-in-order : (c : Call) (d : Desk) → InOrder Holds d → InOrder Holds (step c d .desk)
+  call-in-order (ask a) d i =
+      let h = stays .kept (ask a) d (i .holds) in
+      record {
+        holds = h;
+        passes = stays .passes (step (ask a) d .desk) h;
+        slots = rw (ask-step a d (i .passes)) (i .slots);
+        tidy = λ s. rw (ask-step a d (i .passes)) (i .tidy s);
+      }
+  call-in-order (onSlot slot w) d i =
+      let h = stays .kept (onSlot slot w) d (i .holds) in
+      record {
+        holds = h;
+        passes = stays .passes (step (onSlot slot w) d .desk) h;
+        slots = slot-count slot w d (i .passes) (i .slots);
+        tidy = slot-tidy slot w d (i .passes) (i .slots) (i .tidy);
+      }
 
 -- A call on a slot above 3 is refused, whatever the desk.
 pub above-refused : (slot : ℕ) (w : Work) (d : Desk) → slotRows ≤ slot → step (onSlot slot w) d ≡ deskRefused d BAD

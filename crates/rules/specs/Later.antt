@@ -3,50 +3,35 @@
 use mathlib.Core.Path.{_≡_}
 use mathlib.Core.Bool.{true, false}
 use Prim.Native.Nat.{ℕ, _≤_}
-use lib.ListN.{length}
+use lib.ListN.{getD}
 use Rattle.lists.specs.Lists.{hit}
 use Rattle.rules.specs.declared.Volume.{Volume}
 use Rattle.rules.specs.declared.Token.{Token}
 use Rattle.rules.specs.declared.Session.{Session}
 use Rattle.rules.specs.declared.Tables.{Tables}
-use Rattle.rules.specs.Limits.{putRows}
-use Rattle.rules.specs.Fresh.{freshSession}
+use Rattle.rules.specs.Fresh.{freshToken, freshSession}
 use Rattle.rules.specs.Tables.{usedToken, busy, volumeOf, tokenOf}
 use Rattle.rules.specs.Scope.{inWindow}
-use Rattle.rules.specs.Shaped.{tokenRow, OneVolume}
 use Rattle.rules.specs.VolumeCalls.{isActive}
 
--- two tokens are the same but for their used bytes
+-- the row of the token table at this index; past the last row, a fresh one
+abbrev pub tokenRow : Tables → ℕ → Token
+tokenRow t i = getD (t .tokens) i freshToken
+
+-- two tokens are the same in what a session reads: only used bytes change, and a parent is read by no session
 pub record SameToken (old new : Token) : Type 0 where
   pub no : old .no ≡ new .no
   pub volume : old .volume ≡ new .volume
-  pub parent : old .parent ≡ new .parent
   pub scope : old .scope ≡ new .scope
 
--- a row of the token table before and after: what token it holds, it held before
-abbrev pub Held : Token → Token → Type 0
-Held old new = usedToken new ≡ true → SameToken old new
-
--- the same, of tokens whose number had been given before
+-- a row of the token table before and after: if it holds a token whose number had been given before, it held that token before
 abbrev pub Kept : ℕ → Token → Token → Type 0
 Kept last old new = usedToken new ≡ true → new .no .0 ≤ last → SameToken old new
 
--- the tokens' numbers and their parents' were given, a number has one volume, and so have a token and its parent
-pub record Families (t : Tables) : Type 0 where
-  pub given : (i : ℕ) → usedToken (tokenRow t i) ≡ true → tokenRow t i .no .0 ≤ t .«last_token»
-  pub parents : (i : ℕ) → usedToken (tokenRow t i) ≡ true → tokenRow t i .parent .0 ≤ t .«last_token»
-  pub once : (i j : ℕ) → usedToken (tokenRow t i) ≡ true → tokenRow t j .no ≡ tokenRow t i .no → tokenRow t j .volume ≡ tokenRow t i .volume
-  pub near : OneVolume t
-
--- what may be said of tables t′ that calls have made of t: no row is added or lost, "Each kind .. is never given twice", and families stay such
+-- what may be said of tables t′ that calls have made of t: "Each kind counts from 1, is never given twice"
 pub record Later (t t′ : Tables) : Type 0 where
-  pub volumes : length (t′ .volumes) ≡ length (t .volumes)
-  pub entries : length (t′ .entries) ≡ length (t .entries)
-  pub tokens : length (t′ .tokens) ≡ length (t .tokens)
-  pub relays : length (t′ .relays) ≡ length (t .relays)
   pub last : t .«last_token» ≤ t′ .«last_token»
   pub kept : (j : ℕ) → Kept (t .«last_token») (tokenRow t j) (tokenRow t′ j)
-  pub families : Families t → Families t′
 
 -- what an accepted commit tests of the tables, and open and stage test too: the session's volume is in the table, ACTIVE, and at the version of
 -- the opening; its token is in the table, and the clock in its window
@@ -65,7 +50,6 @@ pub record ReadyFor (t : Tables) (s : Session) : Type 0 where
 abbrev pub Ready : Tables → Session → Type 0
 Ready t s = busy s ≡ true → ReadyFor t s
 
--- a slot has places for 8 puts, and "a freed row or slot is as on a fresh desk"
-pub record Tidy (s : Session) : Type 0 where
-  pub puts : length (s .puts) ≡ putRows
-  pub idle : busy s ≡ false → s ≡ freshSession
+-- "a freed row or slot is as on a fresh desk": an idle slot is the fresh one
+abbrev pub Tidy : Session → Type 0
+Tidy s = busy s ≡ false → s ≡ freshSession

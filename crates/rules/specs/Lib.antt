@@ -15,10 +15,8 @@ pub mod SessionCalls
 pub mod Commit
 pub mod Calls
 pub mod Serial
-pub mod Shaped
 pub mod Later
-pub mod NumberLaws
-pub mod FamilyLaws
+pub mod FindLaws
 pub mod LaterLaws
 pub mod SlotLaws
 pub mod FoundLaws
@@ -26,5 +24,4 @@ pub mod AgainLaws
 pub mod InOrder
 pub mod InOrderLaws
 pub mod SerialLaws
-pub mod StrayChild
 pub mod SerialCase

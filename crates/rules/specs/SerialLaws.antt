@@ -1,4 +1,4 @@
--- Demand 3 for our desk, from the one law that every call keeps a sound desk sound. Assumes nothing but that law, which is an argument.
+-- Demand 3 for our desk, from the law that every call keeps a sound desk sound, which is an argument. Assumes nothing else.
 use mathlib.Core.Path.{_≡_, refl, sym, _∙_, subst}
 use mathlib.Core.Bool.{true, false}
 use Prim.Native.Nat.{ℕ}
@@ -21,14 +21,13 @@ use Rattle.rules.specs.Outcome.{refusal, isAccepted}
 use Rattle.rules.specs.Sound.{soundSession, soundTables, sound}
 use Rattle.rules.specs.Calls.{askRule, Work, opens, stages, commits, abandons, workRule, Call, ask, onSlot}
 use Rattle.rules.specs.Serial.{kindOf, role, stepOf, tablesOf, Demand3}
-use Rattle.rules.specs.Shaped.{slotOf}
 use Rattle.rules.specs.Later.{Later, Ready, Tidy}
 use Rattle.rules.specs.LaterLaws.{later-refl, later-trans, ask-later}
 use Rattle.rules.specs.SlotLaws.{slotRule, slot-does}
 use Rattle.rules.specs.FoundLaws.{passed, open-found, open-before, stage-before, commit-ready}
 use Rattle.rules.specs.AgainLaws.{open-again, stage-again}
-use Rattle.rules.specs.InOrder.{Stays, InOrder}
-use Rattle.rules.specs.InOrderLaws.{fresh-slot, fresh-in-order, ask-step, slot-answer, slot-tables, slot-session, slot-others, stays-in-order}
+use Rattle.rules.specs.InOrder.{Stays, slotOf, InOrder}
+use Rattle.rules.specs.InOrderLaws.{fresh-slot, fresh-in-order, ask-step, slot-answer, slot-tables, slot-session, slot-others, call-in-order}
 
 -- The step on the tables and one slot.
 abbrev askOf : Call → Tables → Answer × Tables
@@ -43,9 +42,9 @@ workOf (onSlot slot w) t s = let o = slotRule slot w t s in (o .answer, o .table
 abbrev Fit : Tables → Type 0
 Fit t = soundTables t ≡ true
 
-fit : (d : Desk) → InOrder d → Fit (d .tables)
+fit : (d : Desk) → sound d ≡ true → Fit (d .tables)
 unfolding sound
-fit d i = and-left (soundTables (d .tables)) (allOf (soundSession (d .tables)) (d .sessions)) (i .passes)
+fit d p = and-left (soundTables (d .tables)) (allOf (soundSession (d .tables)) (d .sessions)) p
 
 plain≢on : {k : Kind} {s : ℕ} → plain ≡ on k s → ⊥
 plain≢on p = let z : _≡_ {A = ℕ} 0 1 = cc in omega arith
@@ -57,20 +56,20 @@ on-kind : {k k′ : Kind} {s s′ : ℕ} → on k′ s′ ≡ on k s → k′ �
 on-kind e = cc
 
 -- the step runs the two rules and touches nothing else
-local : Stays → (rate : ℕ) → Local role stepOf tablesOf slotOf freshSession (freshDesk rate) InOrder Fit Tidy askOf workOf
-local stays rate = record {
-  fresh-sound = fresh-in-order rate;
+local : (Holds : Desk → Type 0) → Stays Holds → (rate : ℕ) → Local role stepOf tablesOf slotOf freshSession (freshDesk rate) (InOrder Holds) Fit Tidy askOf workOf
+local Holds stays rate = record {
+  fresh-sound = fresh-in-order Holds stays rate;
   fresh-idle = fresh-slot;
-  stays-sound = stays-in-order stays;
-  fit = fit;
+  stays-sound = call-in-order Holds stays;
+  fit = λ d i. fit d (i .passes);
   tidy = λ d i s. i .tidy s;
   plain-answer = elim [ ask a ↦ λ d r i. rw (ask-step a d (i .passes)) | onSlot slot w ↦ λ d r i. absurd (plain≢on (sym r)) ];
   plain-base = elim [ ask a ↦ λ d r i. rw (ask-step a d (i .passes)) | onSlot slot w ↦ λ d r i. absurd (plain≢on (sym r)) ];
   plain-cells = elim [ ask a ↦ λ d r i t. rw (ask-step a d (i .passes)) | onSlot slot w ↦ λ d r i t. absurd (plain≢on (sym r)) ];
-  slot-answer = λ k s. elim [ ask a ↦ λ d r i. absurd (plain≢on r) | onSlot slot w ↦ λ d r i. rw (← on-slot r) (slot-answer slot w d i) ];
-  slot-base = λ k s. elim [ ask a ↦ λ d r i. absurd (plain≢on r) | onSlot slot w ↦ λ d r i. rw (← on-slot r) (slot-tables slot w d i) ];
-  slot-cell = λ k s. elim [ ask a ↦ λ d r i. absurd (plain≢on r) | onSlot slot w ↦ λ d r i. rw (← on-slot r) (slot-session slot w d i) ];
-  slot-others = λ k s. elim [ ask a ↦ λ d r i t n. absurd (plain≢on r) | onSlot slot w ↦ λ d r i t n. slot-others slot w d i t (λ e. n (e ∙ on-slot r)) ];
+  slot-answer = λ k s. elim [ ask a ↦ λ d r i. absurd (plain≢on r) | onSlot slot w ↦ λ d r i. rw (← on-slot r) (slot-answer slot w d (i .passes) (i .slots)) ];
+  slot-base = λ k s. elim [ ask a ↦ λ d r i. absurd (plain≢on r) | onSlot slot w ↦ λ d r i. rw (← on-slot r) (slot-tables slot w d (i .passes) (i .slots)) ];
+  slot-cell = λ k s. elim [ ask a ↦ λ d r i. absurd (plain≢on r) | onSlot slot w ↦ λ d r i. rw (← on-slot r) (slot-session slot w d (i .passes) (i .slots)) ];
+  slot-others = λ k s. elim [ ask a ↦ λ d r i t n. absurd (plain≢on r) | onSlot slot w ↦ λ d r i t n. slot-others slot w d (i .passes) (i .slots) t (λ e. n (e ∙ on-slot r)) ];
 }
 
 -- The rules on the tables and one slot.
@@ -102,7 +101,7 @@ ends k s (onSlot slot w) t x i p = slot-does slot w t x .ends (subst Ends (sym (
 opens-idle : (s : ℕ) (c : Call) (t : Tables) (x : Session) → Pass Kind.opens s c t x → x ≡ freshSession
 unfolding workRule
 opens-idle s (ask a) t x p = absurd (plain≢on (p .is))
-opens-idle s (onSlot slot (opens n)) t x p = p .neat .idle (open-found n t x (slot-passed slot (opens n) t x (p .ok) .1) .idle)
+opens-idle s (onSlot slot (opens n)) t x p = p .neat (open-found n t x (slot-passed slot (opens n) t x (p .ok) .1) .idle)
 opens-idle s (onSlot slot (stages path size h)) t x p = absurd (let z : _≡_ {A = ℕ} 0 1 = cc (on-kind (p .is)) in omega arith)
 opens-idle s (onSlot slot commits) t x p = absurd (let z : _≡_ {A = ℕ} 0 1 = cc (on-kind (p .is)) in omega arith)
 opens-idle s (onSlot slot abandons) t x p = absurd (let z : _≡_ {A = ℕ} 0 1 = cc (on-kind (p .is)) in omega arith)
@@ -158,8 +157,8 @@ ruled = record {
   commits-ready = commits-ready;
 }
 
--- Demand 3, once every call is known to keep a sound desk sound.
-pub demand3-from : Stays → Demand3
-demand3-from stays rate =
-    serial role isAccepted stepOf tablesOf slotOf freshSession (freshDesk rate) InOrder Later Ready
-    (laws role isAccepted stepOf tablesOf slotOf freshSession (freshDesk rate) InOrder Fit Tidy Later Ready askOf workOf (local stays rate) ruled)
+-- Demand 3, from an invariant under which the test of the desk passes.
+pub demand3-from : (Holds : Desk → Type 0) → Stays Holds → Demand3
+demand3-from Holds stays rate =
+    serial role isAccepted stepOf tablesOf slotOf freshSession (freshDesk rate) (InOrder Holds) Later Ready
+    (laws role isAccepted stepOf tablesOf slotOf freshSession (freshDesk rate) (InOrder Holds) Fit Tidy Later Ready askOf workOf (local Holds stays rate) ruled)

@@ -5,6 +5,7 @@ use mathlib.Core.Bool.{Bool, true, false, cond, false≢true, true≢false}
 use mathlib.Core.List.{List, [], _∷_, map}
 use Prim.Native.Nat.{ℕ, _+_}
 use native.Mathlib.Omega.{arith}
+use native.Mathlib.Nat.{le-refl}
 use borrow.Author.Tests.{not-false}
 use lib.Dec.{eqb, leb}
 use lib.ListN.{length, length-set, length-map}
@@ -35,9 +36,8 @@ use Rattle.rules.specs.Commit.{stagedBytes, Placed, noPlace, placed, and
 use Rattle.rules.specs.Calls.{Work, opens, stages, commits, abandons, workRule}
 use Rattle.rules.specs.Serial.{kindOf}
 use Rattle.rules.specs.Later.{SameToken, Later, Tidy}
-use Rattle.rules.specs.NumberLaws.{token-used}
-use Rattle.rules.specs.FamilyLaws.{either, same-token, held-map}
-use Rattle.rules.specs.LaterLaws.{later-refl, later-held}
+use Rattle.rules.specs.FindLaws.{token-used}
+use Rattle.rules.specs.LaterLaws.{either, same-token, kept-map, later-refl}
 
 -- What a call of the kind k does to the tables t and the slot s, whatever it answers.
 pub record Does (k : Kind) (t : Tables) (s : Session) (o : SlotOutcome) : Type 0 where
@@ -72,26 +72,24 @@ does-prepare k t s s′ v i f = record {
   ends = λ j a. absurd (i j);
 }
 
-pub fresh-tidy : Tidy freshSession
-fresh-tidy = record { puts = refl; idle = λ b. refl }
-
 -- an accepted commit or abandon
 does-end : (k : Kind) (t t′ : Tables) (s : Session) (v : ℕ) → (Silent k → t′ ≡ t) → Later t t′ → Does k t s (slotAccepted v t′ freshSession)
 does-end k t t′ s v i l = record {
   refused = λ r. absurd (true≢false r);
   later = l;
-  tidy = λ y. fresh-tidy;
+  tidy = λ y b. refl;
   silent = i;
   ends = λ j a. refl;
 }
 
-opened-tidy : (n : TokenNo) (v : VolumeNo) (version : ℕ) → given (n .0) ≡ true → Tidy (opened n v version)
-opened-tidy n v version g = record { puts = refl; idle = λ b. absurd (true≢false (sym g ∙ b)) }
+-- a busy slot
+busy-tidy : (s : Session) → busy s ≡ true → Tidy s
+busy-tidy s g b = absurd (true≢false (sym g ∙ b))
 
 open-volume-does : (t : Tables) (s : Session) (n : TokenNo) (h : Hit Volume) → given (n .0) ≡ true → Does Kind.opens t s (openVolume t s n h)
 unfolding openVolume
 open-volume-does t s n miss g = does-refused Kind.opens t s _ refl
-open-volume-does t s n (hit i v) g = search (does-check, does-prepare, opened-tidy)
+open-volume-does t s n (hit i v) g = search (does-check, does-prepare, busy-tidy)
 
 open-token-does : (t : Tables) (s : Session) (n : TokenNo) (h : Hit Token) → tokenOf n t ≡ h → Does Kind.opens t s (openToken t s h)
 unfolding openToken
@@ -100,13 +98,10 @@ open-token-does t s n (hit i k) e =
     let g = token-used n t i k e in
     search (does-check, open-volume-does)
 
-staged-tidy : (s : Session) (count : ℕ) (puts : List Put) → busy s ≡ true → length puts ≡ length (s .puts) → Tidy s → Tidy (withPuts s count puts)
-staged-tidy s count puts g e y = record { puts = e ∙ y .puts; idle = λ b. absurd (true≢false (sym g ∙ b)) }
-
 stage-put-does : (t : Tables) (s : Session) (p : Put) (h : Hit Put) → busy s ≡ true → Does Kind.stages t s (stagePut t s p h)
 unfolding stagePut
-stage-put-does t s p (hit j old) g = search (does-prepare, staged-tidy, length-set)
-stage-put-does t s p miss g = search (does-check, does-prepare, staged-tidy, length-set)
+stage-put-does t s p (hit j old) g = search (does-prepare, busy-tidy)
+stage-put-does t s p miss g = search (does-check, does-prepare, busy-tidy)
 
 stage-token-does : (t : Tables) (s : Session) (path : List ℕ) (size : ℕ) (x : Hash) (h : Hit Token) → busy s ≡ true
     → Does Kind.stages t s (stageToken t s path size x h)
@@ -118,60 +113,23 @@ stage-does : (path : List ℕ) (size : ℕ) (x : Hash) (t : Tables) (s : Session
 unfolding stageRule
 stage-does path size x t s = search (does-check, stage-token-does, not-false)
 
--- placing changes relays and neither adds nor loses one
-and-placed : (b : Bool) (place : Placement) (rest : Placed) (places : List Placement) (rs : List Relay) → cond b noPlace (andPlaced place rest) ≡ placed places rs
-    → (ps : List Placement) × (rest ≡ placed ps rs)
-and-placed true place rest places rs e = absurd (let z : _≡_ {A = ℕ} 0 1 = cc in omega arith)
-and-placed false place noPlace places rs e = absurd (let z : _≡_ {A = ℕ} 0 1 = cc in omega arith)
-and-placed false place (placed ps rs′) places rs e = let q : rs′ ≡ rs = cc in (ps, ap (placed ps) q)
-
-placed-length : (clock k m : ℕ) (ps : List Put) (rs rs′ : List Relay) (places : List Placement) → placeAll clock k m ps rs ≡ placed places rs′
-    → length rs′ ≡ length rs
-unfolding placeAll
-placed-length clock k m [] rs rs′ places e = let q : rs ≡ rs′ = cc in rw q
-placed-length clock k m (p ∷ ps) rs rs′ places e =
-    let bytes = shardSize (p .size) k in
-    let place = placementOf (taken clock bytes (k + m) rs) in
-    let next = map (loaded bytes place) rs in
-    let q = and-placed (tooFew clock bytes (k + m) rs) place (placeAll clock k m ps next) places rs′ e in
-    placed-length clock k m ps next rs′ (q .0) (q .1) ∙ length-map rs (loaded bytes place)
-
--- storing puts sets rows
-store-new-length : (es : List Entry) (e : Entry) (h : Hit Entry) → length (storeNew es e h) ≡ length es
-unfolding storeNew
-store-new-length es e miss = refl
-store-new-length es e (hit i old) = length-set es i e
-
-store-at-length : (es : List Entry) (e : Entry) (h : Hit Entry) → length (storeAt es e h) ≡ length es
-unfolding storeAt
-store-at-length es e miss = store-new-length es e (find freeEntry es)
-store-at-length es e (hit i old) = length-set es i e
-
-store-all-length : (n : VolumeNo) (ps : List Put) (places : List Placement) (es : List Entry) → length (storeAll n ps places es) ≡ length es
-unfolding storeAll
-store-all-length n [] places es = refl
-store-all-length n (p ∷ ps) [] es = refl
-store-all-length n (p ∷ ps) (place ∷ places) es = store-all-length n ps places _ ∙ store-at-length es _ _
-
 -- a commit changes no token but in its used bytes
 charged-same : (ks : List Token) (bytes : ℕ) (k : Token) → SameToken k (charged ks bytes k)
 unfolding charged
-charged-same ks bytes k = either (SameToken k) (anyOf (isToken (k .no)) ks) _ k (record { no = refl; volume = refl; parent = refl; scope = refl }) (same-token k)
+charged-same ks bytes k = either (SameToken k) (anyOf (isToken (k .no)) ks) _ k (record { no = refl; volume = refl; scope = refl }) (same-token k)
 
-committed-later : (t : Tables) (i : ℕ) (v : Volume) (k : Token) (ps : List Put) (places : List Placement) (rs : List Relay) → length rs ≡ length (t .relays)
+committed-later : (t : Tables) (i : ℕ) (v : Volume) (k : Token) (ps : List Put) (places : List Placement) (rs : List Relay)
     → Later t (committed t i v k ps places rs)
 unfolding committed
-committed-later t i v k ps places rs e =
-    later-held t _ (length-set (t .volumes) i _) (store-all-length (v .no) ps places (t .entries)) (length-map (t .tokens) _) (length-map rs _ ∙ e) refl
-    (held-map _ (t .tokens) (charged-same (family (t .tokens) k) (stagedBytes ps)))
+committed-later t i v k ps places rs = record {
+  last = le-refl (t .«last_token»);
+  kept = kept-map (t .«last_token») _ (t .tokens) (charged-same (family (t .tokens) k) (stagedBytes ps));
+}
 
-commit-placed-does : (t : Tables) (s : Session) (i : ℕ) (v : Volume) (k : Token) (p : Placed) → placeAll (t .clock) (v .k) (v .m) (staged s) (t .relays) ≡ p
-    → Does Kind.commits t s (commitPlaced t s i v k p)
+commit-placed-does : (t : Tables) (s : Session) (i : ℕ) (v : Volume) (k : Token) (p : Placed) → Does Kind.commits t s (commitPlaced t s i v k p)
 unfolding commitPlaced
-commit-placed-does t s i v k noPlace e = does-refused Kind.commits t s _ refl
-commit-placed-does t s i v k (placed places rs) e =
-    does-end Kind.commits t _ s _ (λ x. absurd x)
-    (committed-later t i v k (staged s) places rs (placed-length (t .clock) (v .k) (v .m) (staged s) (t .relays) rs places e))
+commit-placed-does t s i v k noPlace = does-refused Kind.commits t s _ refl
+commit-placed-does t s i v k (placed places rs) = does-end Kind.commits t _ s _ (λ x. absurd x) (committed-later t i v k (staged s) places rs)
 
 commit-limits-does : (t : Tables) (s : Session) (i : ℕ) (v : Volume) (k : Token) → Does Kind.commits t s (commitLimits t s i v k)
 unfolding commitLimits

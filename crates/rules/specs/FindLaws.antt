@@ -1,13 +1,12 @@
 -- Laws of a search by number: what it finds has the number and stands in its row. Assumes nothing.
 use mathlib.Core.Path.{_≡_, ap}
 use mathlib.Core.Bool.{true}
-use Prim.Native.Nat.{ℕ, _<_}
+use Prim.Native.Nat.{ℕ}
 use borrow.Author.Tests.{eqb-true}
 use lib.Dec.{eqb}
-use lib.ListN.{length}
 use Rattle.lists.specs.Lists.{hit}
 use Rattle.lists.specs.BoolLaws.{and-left, and-right}
-use Rattle.lists.specs.SearchLaws.{row-passes, found-below, found-at}
+use Rattle.lists.specs.SearchLaws.{row-passes, found-at}
 use Rattle.rules.specs.declared.VolumeNo.{VolumeNo}
 use Rattle.rules.specs.declared.TokenNo.{TokenNo}
 use Rattle.rules.specs.declared.Volume.{Volume}
@@ -15,7 +14,7 @@ use Rattle.rules.specs.declared.Token.{Token}
 use Rattle.rules.specs.declared.Tables.{Tables}
 use Rattle.rules.specs.Fresh.{freshToken}
 use Rattle.rules.specs.Tables.{given, usedToken, isVolume, isToken, volumeOf, tokenOf}
-use Rattle.rules.specs.Shaped.{tokenRow}
+use Rattle.rules.specs.Later.{tokenRow}
 
 pub volume-number : (n : VolumeNo) (t : Tables) (i : ℕ) (v : Volume) → volumeOf n t ≡ hit i v → v .no ≡ n
 unfolding volumeOf
@@ -37,7 +36,3 @@ module _ (n : TokenNo) (t : Tables) (i : ℕ) (k : Token) (e : tokenOf n t ≡ h
   pub token-at : tokenRow t i ≡ k
   unfolding tokenOf
   token-at = found-at (isToken n) (t .tokens) i k e freshToken
-
-  pub token-below : i < length (t .tokens)
-  unfolding tokenOf
-  token-below = found-below (isToken n) (t .tokens) i k e
