@@ -1,5 +1,5 @@
 -- Short histories from a fresh desk, each worked out from the definitions by computation: what the calls answer, as number and value of each.
--- There is one for each subject of document 01 and for each of its "Tempting and wrong". Assumes nothing.
+-- There is one for each subject of document 01, for each of its "Tempting and wrong", and for each refusal that a call gives. Assumes nothing.
 use mathlib.Core.Path.{_≡_, refl}
 use mathlib.Core.Bool.{Bool, true, false}
 use mathlib.Core.List.{List, [], _∷_, _++_}
@@ -18,13 +18,14 @@ use Rattle.rules.specs.declared.Hash.{Hash}
 use Rattle.rules.specs.declared.Mode.{Mode}
 use Rattle.rules.specs.declared.Mode.the-variants.{Read, Write, Both}
 use Rattle.rules.specs.declared.Desk.{Desk}
-use Rattle.rules.specs.Fresh.{freshDesk}
-use Rattle.rules.specs.Tables.{isEntry, isPut, ownedBy, volumeOf, tokenOf, relayOf, entryOf, cleared}
+use Rattle.rules.specs.declared.Tables.{Tables}
+use Rattle.rules.specs.Fresh.{freshDesk, freshTables, freshVolume}
+use Rattle.rules.specs.Tables.{isEntry, isPut, ownedBy, volumeOf, tokenOf, relayOf, entryOf, cleared, withClock, withVolumes, withLastVolume, withLastToken, withLastRelay, withVersion}
 use Rattle.rules.specs.Scope.{ScopeArg, scopeFits, narrows, chain, descends}
 use Rattle.rules.specs.Relays.{eligibleSet, tooFew, inOrder, ranked, taken, holdsShard, loaded, shardBytes, bytesOn, shardsOn, lightened}
 use Rattle.rules.specs.Rent.{sizesIn, effective, rentFor, rentNow}
 use Rattle.rules.specs.Sound.{soundVolume, sameName, soundPlacement, soundIn, soundEntry, sameEntry, volumeThere, parentThere, soundToken, soundRelay, soundPut, samePath, soundSession, soundVolumes, soundEntries, soundTokens, soundRelays, soundTables, sound}
-use Rattle.rules.specs.VolumeCalls.{hasName, createIn, createRule, depositIn, depositRule, deleteIn, deleteRule, undeleteIn, undeleteRule, dropEntries, removeEntry, removeIn, removeRule}
+use Rattle.rules.specs.VolumeCalls.{newVolume, hasName, createIn, createRule, depositIn, depositRule, deleteIn, deleteRule, undeleteIn, undeleteRule, dropEntries, removeEntry, removeIn, removeRule}
 use Rattle.rules.specs.TokenCalls.{tokenIn, newToken, grantIn, grantRule, attenuateIn, attenuateRule, revokeOwner, revokeIn, revokeRule, lookEntry, lookIn, lookRule}
 use Rattle.rules.specs.RelayCalls.{registerIn, registerRule, heartbeatIn, heartbeatRule}
 use Rattle.rules.specs.Advance.{relaysLeave, afterRent, settled, settle, isDue, isOneOf, collect, atEpoch, advanced, advanceRule}
@@ -326,24 +327,35 @@ pub widening : history
 unfolding history
 widening = refl
 
--- a heartbeat at 1,000: at 1,099 the relay is there, at 1,100 it has left
+-- "heartbeat at 1100: 26": relay 2, which registered at 1,000, has left; relay 1 beat again at 1,099 and is there
 pub heartbeats : history
-    (ask (advance 1000) ∷ ask (register 5) ∷ ask (advance 1099) ∷ ask (heartbeat (relay 1)) ∷ ask (advance 1198)
-    ∷ ask (heartbeat (relay 1))
-    ∷ ask (advance 1298)
+    (ask (advance 1000) ∷ ask (register 5) ∷ ask (register 5) ∷ ask (advance 1099) ∷ ask (heartbeat (relay 1)) ∷ ask (advance 1100)
+    ∷ ask (heartbeat (relay 2))
+    ∷ ask (advance 1198)
     ∷ ask (heartbeat (relay 1))
     ∷ ask (heartbeat (relay 0))
     ∷ ask (register 5)
     ∷ [])
-    ≡ (0, 1000) ∷ (0, 1) ∷ (0, 1099) ∷ (0, 0) ∷ (0, 1198) ∷ (0, 0) ∷ (0, 1298) ∷ (26, 0) ∷ (26, 0) ∷ (0, 2) ∷ []
+    ≡ (0, 1000) ∷ (0, 1) ∷ (0, 2) ∷ (0, 1099) ∷ (0, 0) ∷ (0, 1100) ∷ (26, 0) ∷ (0, 1198) ∷ (0, 0) ∷ (26, 0) ∷ (0, 3) ∷ []
 unfolding history
 heartbeats = refl
 
 -- "Advance 0 to 7,199 passes, 0 to 7,200 is 16."
-pub two-epoch-ends : history (ask (advance 7200) ∷ ask (advance 7199) ∷ ask (advance 7198) ∷ ask (advance 7199) ∷ ask (advance 1099511627777) ∷ [])
-    ≡ (16, 0) ∷ (0, 7199) ∷ (16, 0) ∷ (0, 7199) ∷ (16, 0) ∷ []
+pub two-epoch-ends : history (ask (advance 7200) ∷ ask (advance 7199) ∷ ask (advance 7198) ∷ ask (advance 7199) ∷ [])
+    ≡ (16, 0) ∷ (0, 7199) ∷ (16, 0) ∷ (0, 7199) ∷ []
 unfolding history
 two-epoch-ends = refl
+
+-- a desk with other tables
+abbrev deskOf : Tables → Desk
+deskOf t = record { tables = t; sessions = freshDesk 100 .sessions }
+
+-- 16: "above 2^40"; a desk whose clock is above it is answered 1
+pub last-block : told (ask (advance 1099511627776) ∷ ask (advance 1099511627777) ∷ []) (deskOf (withClock (freshTables 100) 1099511627770))
+    ++ told (ask (register 5) ∷ []) (deskOf (withClock (freshTables 100) 1099511627777))
+    ≡ (0, 1099511627776) ∷ (16, 0) ∷ (1, 0) ∷ []
+unfolding told
+last-block = refl
 
 -- 20, 25, and 1 for a name, K, M and a cap
 pub volumes-refused : history
@@ -360,3 +372,119 @@ pub volumes-refused : history
     ≡ (1, 0) ∷ (1, 0) ∷ (1, 0) ∷ (1, 0) ∷ (0, 1) ∷ (25, 0) ∷ (0, 2) ∷ (20, 0) ∷ (0, 0) ∷ (20, 0) ∷ (2, 0) ∷ []
 unfolding history
 volumes-refused = refl
+
+abbrev stranger : Account
+stranger = record { 0 = replicate 32 2 }
+
+-- 3: only the owner deletes, undeletes, grants, revokes and removes
+pub owners-only : history
+    (begin ++ (ask (grant owner (volume 1) (scope [] Unlimited)) ∷ []) ++ put 0 1 a 1
+    ++ (ask (grant stranger (volume 1) (scope [] Unlimited)) ∷ ask (revoke stranger (token 1)) ∷ ask (remove stranger (volume 1) a)
+    ∷ ask (delete stranger (volume 1))
+    ∷ ask (undelete stranger (volume 1))
+    ∷ ask (undelete owner (volume 1))
+    ∷ []))
+    ≡ begun ++ ((0, 1) ∷ (0, 0) ∷ (0, 0) ∷ (0, 1) ∷ (3, 0) ∷ (3, 0) ∷ (3, 0) ∷ (3, 0) ∷ (3, 0) ∷ (8, 0) ∷ [])
+unfolding history
+owners-only = refl
+
+-- a scope of this mode
+abbrev scopeOf : Mode → ScopeArg
+scopeOf mode = record { prefix = []; mode = mode; cap = Unlimited; «from» = 0; until = 1000000 }
+
+-- 6: "open without write, look without read"
+pub modes : history
+    (begin
+    ++ (ask (grant owner (volume 1) (scopeOf Read)) ∷ ask (grant owner (volume 1) (scopeOf Write)) ∷ onSlot 0 (opens (token 1))
+    ∷ ask (look (token 1) a)
+    ∷ onSlot 0 (opens (token 2))
+    ∷ ask (look (token 2) a)
+    ∷ onSlot 0 (opens (token 2))
+    ∷ []))
+    ≡ begun ++ ((0, 1) ∷ (0, 2) ∷ (6, 0) ∷ (15, 0) ∷ (0, 0) ∷ (6, 0) ∷ (19, 0) ∷ [])
+unfolding history
+modes = refl
+
+-- 11: "volume's raw bytes would pass its cap", replaced entries out
+pub volume-cap : history
+    (ask (create owner a 2 1 (Bytes 100)) ∷ ask (deposit (volume 1) 1000) ∷ ask (register 1000) ∷ ask (register 1000)
+    ∷ ask (register 1000)
+    ∷ ask (grant owner (volume 1) (scope [] Unlimited))
+    ∷ put 0 1 a 101
+    ++ (onSlot 0 abandons ∷ [])
+    ++ put 0 1 a 100
+    ++ put 0 1 a 99
+    ++ put 0 1 b 2)
+    ≡ begun
+    ++ ((0, 1) ∷ (0, 0) ∷ (0, 0) ∷ (11, 0) ∷ (0, 0) ∷ (0, 0) ∷ (0, 0) ∷ (0, 1) ∷ (0, 0) ∷ (0, 0) ∷ (0, 2) ∷ (0, 0) ∷ (0, 0) ∷ (11, 0) ∷ [])
+unfolding history
+volume-cap = refl
+
+-- 13: "balance below one epoch's rent of the new content"; equal passes, and an object of 0 bytes costs nothing
+pub rent-at-commit : history
+    (ask (create owner a 2 1 Unlimited) ∷ ask (deposit (volume 1) 0) ∷ ask (register 1000) ∷ ask (register 1000)
+    ∷ ask (register 1000)
+    ∷ ask (grant owner (volume 1) (scope [] Unlimited))
+    ∷ put 0 1 a 1
+    ++ (ask (deposit (volume 1) 1) ∷ onSlot 0 commits ∷ [])
+    ++ put 0 1 b 0)
+    ≡ begun ++ ((0, 1) ∷ (0, 0) ∷ (0, 0) ∷ (13, 0) ∷ (0, 0) ∷ (0, 1) ∷ (0, 0) ∷ (0, 0) ∷ (0, 2) ∷ [])
+unfolding history
+rent-at-commit = refl
+
+-- a session whose volume was deleted is refused with 4, and with 2 once the volume is collected; undelete brings no token back
+pub session-of-a-lost-volume : history
+    (ask (create owner a 2 1 Unlimited) ∷ ask (grant owner (volume 1) (scope [] Unlimited)) ∷ onSlot 0 (opens (token 1))
+    ∷ ask (delete owner (volume 1))
+    ∷ ask (undelete owner (volume 1))
+    ∷ ask (look (token 1) a)
+    ∷ ask (delete owner (volume 1))
+    ∷ onSlot 0 commits
+    ∷ ask (advance 3600)
+    ∷ ask (advance 7200)
+    ∷ onSlot 0 commits
+    ∷ ask (create owner a 2 1 Unlimited)
+    ∷ onSlot 0 commits
+    ∷ [])
+    ≡ (0, 1) ∷ (0, 1) ∷ (0, 0) ∷ (0, 0) ∷ (0, 0) ∷ (4, 0) ∷ (0, 0) ∷ (4, 0) ∷ (0, 3600) ∷ (0, 7200) ∷ (2, 0) ∷ (0, 2) ∷ (2, 0) ∷ []
+unfolding history
+session-of-a-lost-volume = refl
+
+-- one call made again and again
+abbrev again : ℕ → Call → List Call
+again zero c = []
+again (suc n) c = c ∷ again n c
+
+abbrev createsFrom : ℕ → ℕ → List Call
+createsFrom zero from = []
+createsFrom (suc n) from = ask (create owner (from ∷ []) 2 1 Unlimited) ∷ createsFrom n (suc from)
+
+-- the numbers from this one on
+abbrev countedFrom : ℕ → ℕ → List (ℕ × ℕ)
+countedFrom zero from = []
+countedFrom (suc n) from = (0, from) ∷ countedFrom n (suc from)
+
+-- 12: "create, grant, attenuate, register: no free row"
+pub no-free-row : history
+    (createsFrom 9 97 ++ again 33 (ask (register 5)) ++ again 33 (ask (grant owner (volume 1) (scope [] Unlimited)))
+    ++ (ask (attenuate (token 1) (scope [] Unlimited)) ∷ []))
+    ≡ countedFrom 8 1 ++ ((12, 0) ∷ []) ++ countedFrom 32 1 ++ ((12, 0) ∷ []) ++ countedFrom 32 1 ++ ((12, 0) ∷ (12, 0) ∷ [])
+unfolding history
+no-free-row = refl
+
+-- 21: "the number or version has reached its end"
+pub spent : told (ask (create owner a 2 1 Unlimited) ∷ []) (deskOf (withLastVolume (freshTables 100) 65535))
+    ++ told (ask (register 5) ∷ []) (deskOf (withLastRelay (freshTables 100) 65535))
+    ++ told (ask (create owner a 2 1 Unlimited) ∷ ask (grant owner (volume 1) (scope [] Unlimited)) ∷ ask (grant owner (volume 1) (scope [] Unlimited)) ∷ []) (deskOf (withLastToken (freshTables 100) 65534))
+    ++ told
+    (ask (grant owner (volume 1) (scope [] Unlimited)) ∷ onSlot 0 (opens (token 1)) ∷ onSlot 0 commits ∷ onSlot 0 abandons
+    ∷ onSlot 0 (opens (token 1))
+    ∷ onSlot 0 commits
+    ∷ [])
+    (deskOf
+    (withLastVolume
+    (withVolumes (freshTables 100) (withVersion (newVolume 1 owner a 2 1 Unlimited) 4294967294 ∷ replicate 7 freshVolume))
+    1))
+    ≡ (21, 0) ∷ (21, 0) ∷ (0, 1) ∷ (0, 65535) ∷ (21, 0) ∷ (0, 1) ∷ (0, 0) ∷ (0, 4294967295) ∷ (19, 0) ∷ (0, 0) ∷ (21, 0) ∷ []
+unfolding told
+spent = refl

@@ -3,7 +3,7 @@ use mathlib.Core.Path.{_≡_, refl, ap, ap₂, sym, _∙_}
 use mathlib.Core.Bool.{Bool, true, false}
 use mathlib.Core.List.{List, [], _∷_, _++_}
 use Prim.Native.Nat.{ℕ, zero, suc, _+_, _*_, _/_, _%_, _^_, _<_, _≤_}
-use native.Mathlib.Nat.{pow-suc, mod-eq-of-lt, pow-succ', div-div-eq-div-mul, not-suc-le-zero, le-of-suc-le-suc, le-of-lt}
+use native.Mathlib.Nat.{pow-suc, mod-eq-of-lt, pow-succ', div-div-eq-div-mul, not-suc-le-zero, le-of-suc-le-suc, le-of-lt, zero-mul}
 use native.Mathlib.Numerals.{add-one}
 use native.Mathlib.Omega.{arith}
 use borrow.Author.Tests.{eq-eqb, ne-eqb}
@@ -12,7 +12,7 @@ use lib.Pow.{pow-lt}
 use lib.Bits.{bitOr, or-shifted-r}
 use lib.Count.{ones, ones-step}
 use lib.ListN.{length, getD, take}
-use lib.Seq.{take-suc, length-take-le}
+use lib.Seq.{take-all, take-suc, length-take-le}
 use Rattle.lists.specs.Lists.{bit, bitSet, countIf}
 use Rattle.lists.specs.SumLaws.{bit-lt}
 
@@ -52,6 +52,17 @@ module _ {A : Type 0} (p : A → Bool) (l : List A) where
       → bitSet p (take (i + 1) l) ≡ bit b * 2 ^ i + s
   up-more d i h e f = rw (add-one, take-suc l i d, e, f) (set-snoc p (take i l) (getD l i d) ∙ rw (length-take-le i l (le-of-lt h)))
 
+  pub up-here : {b : Bool} {s : ℕ} (d : A) (i : ℕ) → i < length l → b ≡ p (getD l i d) → s ≡ bitSet p (take i l) → b ≡ true
+      → bitSet p (take (i + 1) l) ≡ 1 * 2 ^ i + s
+  up-here d i h e f u = let q = up-more d i h e f in rw u at q
+
+  pub up-on : {b : Bool} {s : ℕ} (d : A) (i : ℕ) → i < length l → b ≡ p (getD l i d) → s ≡ bitSet p (take i l) → b ≡ false
+      → bitSet p (take (i + 1) l) ≡ s
+  up-on d i h e f u = let q = rw u at (up-more d i h e f) in omega (arith, zero-mul (2 ^ i))
+
+  pub up-end : {s : ℕ} (i : ℕ) → length l ≤ i → s ≡ bitSet p (take i l) → s ≡ bitSet p l
+  up-end i h e = e ∙ ap (bitSet p) (take-all i l h)
+
   pub up-lt : (i : ℕ) → i ≤ length l → bitSet p (take i l) < 2 ^ i
   up-lt i h = let q = set-lt p (take i l) in rw (length-take-le i l h) at q
 
@@ -77,3 +88,8 @@ unfolding bitSet
 has-row p [] d i h = absurd (not-suc-le-zero h)
 has-row p (x ∷ xs) d zero h = low-bit (p x) (bitSet p xs)
 has-row p (x ∷ xs) d (suc i) h = rw (next-bit (p x) (bitSet p xs) i) (has-row p xs d i (le-of-suc-le-suc h))
+
+-- the same where the set and the bit are what functions returned
+pub has-test : {A : Type 0} {b : Bool} {s : ℕ} (p : A → Bool) (l : List A) (d : A) (i : ℕ) → i < length l → s ≡ bitSet p l
+    → b ≡ eqb (s / 2 ^ i % 2) 1 → b ≡ p (getD l i d)
+has-test p l d i h e t = t ∙ rw e (has-row p l d i h)

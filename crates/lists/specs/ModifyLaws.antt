@@ -75,7 +75,8 @@ module _ {A : Type 0} where
   map-modify g f (suc i) (x ∷ xs) d e = ap (λ ys. g x ∷ ys) (map-modify g f i xs d e)
 
   -- every row still passes
-  pub all-modify : (p : A → Bool) (f : A → A) (i : ℕ) (l : List A) (d : A) → allOf p l ≡ true → (i < length l → p (f (getD l i d)) ≡ true)
+  pub all-modify : (p : A → Bool) (f : A → A) (i : ℕ) (l : List A) (d : A) → allOf p l ≡ true
+      → (i < length l → p (f (getD l i d)) ≡ true)
       → allOf p (modify f i l) ≡ true
   unfolding allOf modify
   all-modify p f i [] d e h = refl
@@ -84,7 +85,8 @@ module _ {A : Type 0} where
       and-both (and-left (p x) (allOf p xs) e) (all-modify p f i xs d (and-right (p x) (allOf p xs) e) (λ k. h (omega arith)))
 
   -- still no row passes
-  pub none-modify : (p : A → Bool) (f : A → A) (i : ℕ) (l : List A) (d : A) → anyOf p l ≡ false → (i < length l → p (f (getD l i d)) ≡ false)
+  pub none-modify : (p : A → Bool) (f : A → A) (i : ℕ) (l : List A) (d : A) → anyOf p l ≡ false
+      → (i < length l → p (f (getD l i d)) ≡ false)
       → anyOf p (modify f i l) ≡ false
   unfolding anyOf modify
   none-modify p f i [] d e h = refl

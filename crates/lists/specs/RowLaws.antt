@@ -2,7 +2,7 @@
 -- `map f l ≡ map g m`: of two functions that agree on the rows, of a table that was mapped, of a table with one row changed in what f does
 -- not read (map-modify of ModifyLaws). Assumes nothing.
 use mathlib.Core.Path.{_≡_, refl, ap, ap₂, sym, _∙_}
-use mathlib.Core.Bool.{Bool, cond, not, _&&_}
+use mathlib.Core.Bool.{Bool}
 use mathlib.Core.List.{List, [], _∷_, _++_, map, head-eq-of-cons-eq, tail-eq-of-cons-eq}
 use Prim.Native.Nat.{ℕ, suc, _<_}
 use native.Mathlib.Omega.{arith}
@@ -14,7 +14,8 @@ pub rows-length : (X Y : Type 0) (f : X → Y) (l : List X) (n : ℕ) → length
 rows-length X Y f l n e = sym (length-map l f) ∙ e
 
 -- two functions that agree on every row
-pub map-agree : {A B : Type 0} (f g : A → B) (l : List A) (d : A) → ((j : ℕ) → j < length l → f (getD l j d) ≡ g (getD l j d)) → map f l ≡ map g l
+pub map-agree : {A B : Type 0} (f g : A → B) (l : List A) (d : A) → ((j : ℕ) → j < length l → f (getD l j d) ≡ g (getD l j d))
+    → map f l ≡ map g l
 map-agree f g [] d e = refl
 map-agree f g (x ∷ xs) d e = ap₂ _∷_ (e 0 (omega arith)) (map-agree f g xs d (λ j h. e (suc j) (omega arith)))
 
@@ -81,6 +82,23 @@ module _ {A B : Type 0} (p : A → Bool) (q : B → Bool) (l : List A) (m : List
 
   pub first-same : (k : ℕ) → firstAt p k l ≡ firstAt q k m
   first-same k = results-first p k l ∙ ap (firstAt itself k) e ∙ sym (results-first q k m)
+
+-- of a table that was mapped, where f of a mapped row is h of the row
+module _ {A B : Type 0} (g : A → B) (l : List A) where
+  pub sum-map : (f : B → ℕ) (h : A → ℕ) → ((x : A) → f (g x) ≡ h x) → sumOf f (map g l) ≡ sumOf h l
+  sum-map f h e = sum-same f h (map g l) l (map-after f g h l e)
+
+  pub all-map : (p : B → Bool) (q : A → Bool) → ((x : A) → p (g x) ≡ q x) → allOf p (map g l) ≡ allOf q l
+  all-map p q e = all-same p q (map g l) l (map-after p g q l e)
+
+  pub any-map : (p : B → Bool) (q : A → Bool) → ((x : A) → p (g x) ≡ q x) → anyOf p (map g l) ≡ anyOf q l
+  any-map p q e = any-same p q (map g l) l (map-after p g q l e)
+
+  pub count-map : (p : B → Bool) (q : A → Bool) → ((x : A) → p (g x) ≡ q x) → countIf p (map g l) ≡ countIf q l
+  count-map p q e = count-same p q (map g l) l (map-after p g q l e)
+
+  pub first-map : (p : B → Bool) (q : A → Bool) → ((x : A) → p (g x) ≡ q x) → (k : ℕ) → firstAt p k (map g l) ≡ firstAt q k l
+  first-map p q e = first-same p q (map g l) l (map-after p g q l e)
 
 -- two tests that agree on the rows of one table find and keep the same rows
 pub row-same : {A : Type 0} (p q : A → Bool) (k : ℕ) (l : List A) → map p l ≡ map q l → firstRow p k l ≡ firstRow q k l

@@ -43,7 +43,7 @@ unfolding firstAt firstRow
 first-index p k [] = refl
 first-index p k (x ∷ xs) = rw (first-index p (suc k) xs) (sym (index-cond (p x) k x (firstRow p (suc k) xs)))
 
--- nothing is found and something too
+-- a search does not both miss and hit
 pub miss-hit : {A : Type 0} {h : Hit A} {i : ℕ} {x : A} → h ≡ miss → h ≡ hit i x → ⊥
 miss-hit {h = h} e f = let z : _≡_ {A = ℕ} 0 1 = cc in omega arith
 
@@ -59,40 +59,48 @@ module _ {A : Type 0} (p : A → Bool) where
   unfolding firstRow
   row-from [] k i x e = absurd (miss-hit refl e)
   row-from (y ∷ ys) k i x e =
-      ⊎-elim (λ w. omega arith) (λ w. omega (arith, row-from ys (suc k) i x (w .1))) (found-cases (p y) k i y x (firstRow p (suc k) ys) e)
+      ⊎-elim (λ w. omega arith) (λ w. omega (arith, row-from ys (suc k) i x (w .1)))
+      (found-cases (p y) k i y x (firstRow p (suc k) ys) e)
 
   pub row-below : (l : List A) (k i : ℕ) (x : A) → firstRow p k l ≡ hit i x → i < k + length l
   unfolding firstRow
   row-below [] k i x e = absurd (miss-hit refl e)
   row-below (y ∷ ys) k i x e =
-      ⊎-elim (λ w. omega arith) (λ w. omega (arith, row-below ys (suc k) i x (w .1))) (found-cases (p y) k i y x (firstRow p (suc k) ys) e)
+      ⊎-elim (λ w. omega arith) (λ w. omega (arith, row-below ys (suc k) i x (w .1)))
+      (found-cases (p y) k i y x (firstRow p (suc k) ys) e)
 
   pub row-passes : (l : List A) (k i : ℕ) (x : A) → firstRow p k l ≡ hit i x → p x ≡ true
   unfolding firstRow
   row-passes [] k i x e = absurd (miss-hit refl e)
   row-passes (y ∷ ys) k i x e =
-      ⊎-elim (λ w. rw (w .2) at (w .0)) (λ w. row-passes ys (suc k) i x (w .1)) (found-cases (p y) k i y x (firstRow p (suc k) ys) e)
+      ⊎-elim (λ w. rw (w .2) at (w .0)) (λ w. row-passes ys (suc k) i x (w .1))
+      (found-cases (p y) k i y x (firstRow p (suc k) ys) e)
 
   -- with the places counted from k
   pub row-at : (l : List A) (k i j : ℕ) (x d : A) → i ≡ k + j → firstRow p k l ≡ hit i x → getD l j d ≡ x
   unfolding firstRow
   row-at [] k i j x d q e = absurd (miss-hit refl e)
   row-at (y ∷ ys) k i zero x d q e =
-      ⊎-elim (λ w. w .2) (λ w. absurd (omega (arith, row-from ys (suc k) i x (w .1)))) (found-cases (p y) k i y x (firstRow p (suc k) ys) e)
+      ⊎-elim (λ w. w .2) (λ w. absurd (omega (arith, row-from ys (suc k) i x (w .1))))
+      (found-cases (p y) k i y x (firstRow p (suc k) ys) e)
   row-at (y ∷ ys) k i (suc j) x d q e =
-      ⊎-elim (λ w. absurd (omega arith)) (λ w. row-at ys (suc k) i j x d (omega arith) (w .1)) (found-cases (p y) k i y x (firstRow p (suc k) ys) e)
+      ⊎-elim (λ w. absurd (omega arith)) (λ w. row-at ys (suc k) i j x d (omega arith) (w .1))
+      (found-cases (p y) k i y x (firstRow p (suc k) ys) e)
 
   -- no row before it passes
   pub row-first : (l : List A) (k i j : ℕ) (x d : A) → firstRow p k l ≡ hit i x → k + j < i → p (getD l j d) ≡ false
   unfolding firstRow
   row-first [] k i j x d e h = absurd (miss-hit refl e)
   row-first (y ∷ ys) k i zero x d e h =
-      ⊎-elim (λ w. absurd (omega arith)) (λ w. w .0) (found-cases (p y) k i y x (firstRow p (suc k) ys) e)
+      ⊎-elim (λ w. absurd (omega arith)) (λ w. w .0)
+      (found-cases (p y) k i y x (firstRow p (suc k) ys) e)
   row-first (y ∷ ys) k i (suc j) x d e h =
-      ⊎-elim (λ w. absurd (omega arith)) (λ w. row-first ys (suc k) i j x d (w .1) (omega arith)) (found-cases (p y) k i y x (firstRow p (suc k) ys) e)
+      ⊎-elim (λ w. absurd (omega arith)) (λ w. row-first ys (suc k) i j x d (w .1) (omega arith))
+      (found-cases (p y) k i y x (firstRow p (suc k) ys) e)
 
 -- a search finds nothing where no row passes, and only there
-miss-step : {A : Type 0} (b r : Bool) (k : ℕ) (y : A) (rest : Hit A) → cond b (hit k y) rest ≡ miss → (rest ≡ miss → r ≡ false) → (b || r) ≡ false
+miss-step : {A : Type 0} (b r : Bool) (k : ℕ) (y : A) (rest : Hit A) → cond b (hit k y) rest ≡ miss → (rest ≡ miss → r ≡ false)
+    → (b || r) ≡ false
 miss-step true r k y rest e f = absurd (miss-hit e refl)
 miss-step false r k y rest e f = f e
 

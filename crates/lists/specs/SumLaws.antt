@@ -23,6 +23,14 @@ module _ {A : Type 0} (p : A → Bool) (l : List A) where
       let q : countIf p (drop i l) ≡ bit b + countIf p (drop (i + 1) l) = rw (add-one, drop-cons l i d, t) in
       omega arith
 
+  pub count-here : {b : Bool} (d : A) (i n : ℕ) → i < length l → n + countIf p (drop i l) ≡ countIf p l → b ≡ p (getD l i d) → b ≡ true
+      → n + 1 + countIf p (drop (i + 1) l) ≡ countIf p l
+  count-here d i n h e t u = let q = count-more d i n h e t in rw u at q
+
+  pub count-on : {b : Bool} (d : A) (i n : ℕ) → i < length l → n + countIf p (drop i l) ≡ countIf p l → b ≡ p (getD l i d) → b ≡ false
+      → n + countIf p (drop (i + 1) l) ≡ countIf p l
+  count-on d i n h e t u = let q = rw u at (count-more d i n h e t) in omega arith
+
   pub count-end : (i n : ℕ) → length l ≤ i → n + countIf p (drop i l) ≡ countIf p l → n ≡ countIf p l
   unfolding countIf
   count-end i n h e = let q : countIf p (drop i l) ≡ 0 = rw (drop-of-length-le l h) in omega arith
@@ -47,12 +55,14 @@ count-le p [] = omega arith
 count-le p (x ∷ xs) = omega (arith, count-le p xs, bit-lt (p x))
 
 -- a sum is monotone in what is summed, and bounded by a bound of each row
-pub sum-mono : {A : Type 0} (f g : A → ℕ) (l : List A) (d : A) → ((j : ℕ) → j < length l → f (getD l j d) ≤ g (getD l j d)) → sumOf f l ≤ sumOf g l
+pub sum-mono : {A : Type 0} (f g : A → ℕ) (l : List A) (d : A) → ((j : ℕ) → j < length l → f (getD l j d) ≤ g (getD l j d))
+    → sumOf f l ≤ sumOf g l
 unfolding sumOf
 sum-mono f g [] d e = omega arith
 sum-mono f g (x ∷ xs) d e = omega (arith, e 0 (omega arith), sum-mono f g xs d (λ j h. e (suc j) (omega arith)))
 
-pub sum-le : {A : Type 0} (f : A → ℕ) (m : ℕ) (l : List A) (d : A) → ((j : ℕ) → j < length l → f (getD l j d) ≤ m) → sumOf f l ≤ length l * m
+pub sum-le : {A : Type 0} (f : A → ℕ) (m : ℕ) (l : List A) (d : A) → ((j : ℕ) → j < length l → f (getD l j d) ≤ m)
+    → sumOf f l ≤ length l * m
 unfolding sumOf
 sum-le f m [] d e = omega arith
 sum-le f m (x ∷ xs) d e = rw (suc-mul (length xs) m) (omega (arith, e 0 (omega arith), sum-le f m xs d (λ j h. e (suc j) (omega arith))))
@@ -69,7 +79,7 @@ both-cond : (b : Bool) (m : ℕ) → cond b m 0 + cond (not b) m 0 ≡ m
 both-cond true m = omega arith
 both-cond false m = omega arith
 
--- of one list after another
+-- of two lists joined
 module _ {A : Type 0} where
   pub sum-append : (f : A → ℕ) (l m : List A) → sumOf f (l ++ m) ≡ sumOf f l + sumOf f m
   unfolding sumOf
@@ -81,7 +91,7 @@ module _ {A : Type 0} where
   count-append p [] m = omega arith
   count-append p (x ∷ xs) m = omega (arith, count-append p xs m)
 
-  -- of a row said again and again
+  -- of one row repeated
   pub sum-replicate : (f : A → ℕ) (n : ℕ) (x : A) → sumOf f (replicate n x) ≡ n * f x
   unfolding sumOf
   sum-replicate f zero x = sym (zero-mul (f x))
@@ -124,7 +134,8 @@ module _ {A : Type 0} where
   sum-keep f g p [] e = refl
   sum-keep f g p (x ∷ xs) e = sum-cond f (p x) x (keep p xs) ∙ rw (e x, sum-keep f g p xs e)
 
-  pub sum-split : (f : A → ℕ) (p q : A → Bool) (l : List A) → ((x : A) → q x ≡ not (p x)) → sumOf f (keep p l) + sumOf f (keep q l) ≡ sumOf f l
+  pub sum-split : (f : A → ℕ) (p q : A → Bool) (l : List A) → ((x : A) → q x ≡ not (p x))
+      → sumOf f (keep p l) + sumOf f (keep q l) ≡ sumOf f l
   unfolding keep sumOf
   sum-split f p q [] e = refl
   sum-split f p q (x ∷ xs) e =
@@ -137,7 +148,7 @@ module _ {A : Type 0} where
         sum-split f p q xs e,
       ))
 
--- of one list of numbers after another
+-- of two lists of numbers joined
 pub total-append : (l m : List ℕ) → total (l ++ m) ≡ total l + total m
 unfolding total
 total-append [] m = omega arith

@@ -1,5 +1,5 @@
 -- Laws of allOf, anyOf and noClash: one step of a loop and its end, and what they say of each row. Assumes nothing.
-use mathlib.Core.Path.{_≡_, refl, sym}
+use mathlib.Core.Path.{_≡_, refl, sym, _∙_}
 use mathlib.Core.Bool.{Bool, true, false, _&&_, _||_, not, and-assoc, or-assoc}
 use mathlib.Core.Logic.{⊎-elim}
 use mathlib.Core.List.{List, [], _∷_, _++_}
@@ -7,7 +7,8 @@ use Prim.Native.Nat.{ℕ, zero, suc, _+_, _<_, _≤_}
 use native.Mathlib.Nat.{le-of-suc-le-suc, not-suc-le-zero}
 use native.Mathlib.Numerals.{add-one}
 use native.Mathlib.Omega.{arith}
-use borrow.Author.Tests.{not-true}
+use borrow.Author.Tests.{not-true, eqb-true, eqb-false, ltb-true, ltb-false}
+use lib.Dec.{eqb, ltb}
 use lib.ListN.{length, drop, getD, replicate, drop-of-length-le}
 use lib.Seq.{drop-cons}
 use Rattle.lists.specs.Lists.{allOf, anyOf, noClash, miss, firstRow}
@@ -99,12 +100,15 @@ miss-at p l k e = none-at p l (miss-none p l k e)
 pub at-found : {A : Type 0} (p : A → Bool) (l : List A) (k j : ℕ) (d : A) → j < length l → p (getD l j d) ≡ true → FoundRow (firstRow p k l)
 at-found p l k j d h e = some-found p l k (at-any p l j d h e)
 
--- every row passes a weaker test
+-- every row, or some row, passes a weaker test
 pub all-weaker : {A : Type 0} (p q : A → Bool) (l : List A) → ((x : A) → p x ≡ true → q x ≡ true) → allOf p l ≡ true → allOf q l ≡ true
 unfolding allOf
 all-weaker p q [] f e = refl
 all-weaker p q (x ∷ xs) f e =
     and-both (f x (and-left (p x) (allOf p xs) e)) (all-weaker p q xs f (and-right (p x) (allOf p xs) e))
+
+pub any-weaker : {A : Type 0} (p q : A → Bool) (l : List A) (d : A) → ((x : A) → p x ≡ true → q x ≡ true) → anyOf p l ≡ true → anyOf q l ≡ true
+any-weaker p q l d f e = let r = any-at p l d e in at-any q l (r .0) d (r .1) (f (getD l (r .0) d) (r .2))
 
 -- every row passes both tests
 both-step : (a b c d : Bool) → ((a && b) && (c && d)) ≡ ((a && c) && (b && d))
@@ -128,7 +132,7 @@ unfolding allOf anyOf
 all-not p q [] f = refl
 all-not p q (x ∷ xs) f = rw (f x, all-not p q xs f) (not-step (p x) (anyOf p xs))
 
--- of one list after another, and of a row said again and again
+-- of two lists joined, and of one row repeated
 module _ {A : Type 0} (p : A → Bool) where
   pub all-append : (l m : List A) → allOf p (l ++ m) ≡ (allOf p l && allOf p m)
   unfolding allOf
@@ -152,18 +156,40 @@ module _ {A : Type 0} (p : A → Bool) where
 
 -- no row clashes with a later one: of each two indexes, and back
 module _ {A : Type 0} (clash : A → A → Bool) where
-  pub clash-at : (l : List A) → noClash clash l ≡ true → (i j : ℕ) → i < j → j < length l → (d : A) → clash (getD l i d) (getD l j d) ≡ false
+  pub clash-at : (l : List A) → noClash clash l ≡ true → (i j : ℕ) → i < j → j < length l → (d : A)
+      → clash (getD l i d) (getD l j d) ≡ false
   unfolding noClash
   clash-at [] e i j h k d = absurd (not-suc-le-zero k)
   clash-at (x ∷ xs) e i zero h k d = absurd (not-suc-le-zero h)
   clash-at (x ∷ xs) e zero (suc j) h k d =
-      none-at (clash x) xs (not-true (anyOf (clash x) xs) (and-left (not (anyOf (clash x) xs)) (noClash clash xs) e)) j (le-of-suc-le-suc k) d
+      let n = not-true (anyOf (clash x) xs) (and-left (not (anyOf (clash x) xs)) (noClash clash xs) e) in
+      none-at (clash x) xs n j (le-of-suc-le-suc k) d
   clash-at (x ∷ xs) e (suc i) (suc j) h k d =
       clash-at xs (and-right (not (anyOf (clash x) xs)) (noClash clash xs) e) i j (le-of-suc-le-suc h) (le-of-suc-le-suc k) d
 
-  pub at-clash : (l : List A) (d : A) → ((i j : ℕ) → i < j → j < length l → clash (getD l i d) (getD l j d) ≡ false) → noClash clash l ≡ true
+  pub at-clash : (l : List A) (d : A) → ((i j : ℕ) → i < j → j < length l → clash (getD l i d) (getD l j d) ≡ false)
+      → noClash clash l ≡ true
   unfolding noClash
   at-clash [] d f = refl
   at-clash (x ∷ xs) d f =
       rw (at-none (clash x) xs d (λ j h. f 0 (suc j) (omega arith) (omega arith)))
       (at-clash xs d (λ i j h k. f (suc i) (suc j) (omega arith) (omega arith)))
+
+  -- two rows that clash are one
+  pub clash-one : (l : List A) → noClash clash l ≡ true → ((x y : A) → clash x y ≡ clash y x) → (i j : ℕ) → i < length l → j < length l → (d : A)
+      → clash (getD l i d) (getD l j d) ≡ true → i ≡ j
+  clash-one l e symmetric i j h k d t =
+      ⊎-elim
+      (λ q. eqb-true i j q)
+      (λ n.
+      ⊎-elim
+      (λ a. absurd (not-both t (clash-at l e i j (ltb-true i j a) k d)))
+      (λ a.
+      let b = ltb-false i j a in
+      let m = eqb-false i j n in
+      absurd (not-both t (symmetric (getD l i d) (getD l j d) ∙ clash-at l e j i (after i j m b) h d)))
+      (pass-or-fail (ltb i j)))
+      (pass-or-fail (eqb i j))
+    where
+      after : (a b : ℕ) → (a ≡ b → ⊥) → b ≤ a → b < a
+      after a b n h = omega arith

@@ -1,4 +1,5 @@
--- Document 01: the limits, each named once. Assumes nothing.
+-- Document 01: the limits of the tables and of the calls, each named once. Those of a path, a prefix and a name stand with the texts. Assumes
+-- nothing.
 use Prim.Native.Nat.{ℕ, _^_}
 
 -- "What the desk holds": the rows of each table, the session slots, and the puts of a session

@@ -1,4 +1,5 @@
--- Document 01, "Refusal numbers": each under the name that the table gives it. Assumes nothing.
+-- Document 01, "Refusal numbers": the numbers that the calls give, each under the name that the table gives it. Those of typed amounts and of
+-- the journal stand with their readers. Assumes nothing.
 use Prim.Native.Nat.{ℕ}
 
 -- 1: "a field breaks a rule above, from > until, slot > 3"

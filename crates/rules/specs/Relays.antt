@@ -36,11 +36,12 @@ abbrev pub isEligible : ℕ → ℕ → Relay → Bool
 isEligible clock bytes r =
     usedRelay r && leb eligibleHealth (health clock r) && leb bytes (r .capacity - r .used)
 
--- "The eligible relays are a 32-bit set": one bit for each row
+-- "The eligible relays are a 32-bit set whose ones are counted": one bit for each row
 unfoldable pub eligibleSet : ℕ → ℕ → List Relay → ℕ
 eligibleSet clock bytes rs = bitSet (isEligible clock bytes) rs
 
--- "whose ones are counted; the put is placed exactly when they number at least K+M": too few are eligible
+-- "the put is placed exactly when they number at least K+M": too few are eligible. The count of the set's ones is this count of rows
+-- (`ones-rows` of crates/lists/specs/BitLaws.antt)
 unfoldable pub tooFew : ℕ → ℕ → ℕ → List Relay → Bool
 tooFew clock bytes wanted rs = ltb (countIf (isEligible clock bytes) rs) wanted
 

@@ -21,7 +21,7 @@ use Rattle.rules.specs.declared.Put.{Put}
 use Rattle.rules.specs.declared.Session.{Session}
 use Rattle.rules.specs.declared.Tables.{Tables}
 use Rattle.rules.specs.declared.Desk.{Desk}
-use Rattle.rules.specs.Limits.{putRows, leastK, mostK, leastM, mostM, shardPlaces, sizeLimit, capacityLimit, usedLimit, clockLimit, balanceLimit, depositsLimit, lastNumber, deepest}
+use Rattle.rules.specs.Limits.{putRows, leastK, mostK, leastM, mostM, sizeLimit, capacityLimit, usedLimit, clockLimit, balanceLimit, depositsLimit, lastNumber, deepest}
 use Rattle.rules.specs.Tables.{usedVolume, usedEntry, usedToken, usedRelay, busy, freeVolume, freeEntry, freeToken, freeRelay, isVolume, isToken, numbered, staged}
 use Rattle.rules.specs.Scope.{capFits, depth}
 use Rattle.rules.specs.Relays.{placedOn, sameRelay, bytesOn, shardsOn}
@@ -30,7 +30,8 @@ use Rattle.rules.specs.Relays.{placedOn, sameRelay, bytesOn, shardsOn}
 abbrev pub isGiven : ℕ → ℕ → Bool
 isGiven last n = within 1 last n
 
--- the grace count that each status has: 0 when ACTIVE, 1 or 2 in GRACE_PERIOD, 0 to 2 when DELETED; "a .. delete after the clock"
+-- the grace count that each status has, below 3, at which the volume is collected: 0 when ACTIVE, 1 or 2 in GRACE_PERIOD, 0 to 2 when DELETED;
+-- "a .. delete after the clock" of a volume that is DELETED
 abbrev pub soundStatus : ℕ → Status → ℕ → ℕ → Bool
 soundStatus clock Active grace deleted = eqb grace 0
 soundStatus clock Grace grace deleted = within 1 2 grace
@@ -57,10 +58,11 @@ unfoldable pub sameName : Volume → Volume → Bool
 sameName a b =
     usedVolume a && usedVolume b && sameBytes (a .owner .0) (b .owner .0) && sameBytes (textBytes (a .name)) (textBytes (b .name))
 
--- "a placement not of K+M different relays", each of a number that was given
+-- a relay's number was given; the relay may have left the table
 abbrev pub relayGiven : Tables → RelayNo → Bool
 relayGiven t n = isGiven (t .«last_relay») (n .0)
 
+-- "a placement not of K+M different relays", each of a number that was given
 unfoldable pub soundPlacement : Tables → Volume → Placement → Bool
 soundPlacement t v p =
     eqb (p .len) (v .k + v .m) && allOf (relayGiven t) (placedOn p) && noClash sameRelay (placedOn p)
@@ -99,6 +101,7 @@ soundToken t k =
     && leb (depth (t .tokens) k) deepest
     && leb (k .used) usedLimit)
 
+-- "a number .. held twice"
 abbrev pub sameToken : Token → Token → Bool
 sameToken a b = numbered (a .no .0) (b .no .0)
 
@@ -112,6 +115,7 @@ soundRelay t r =
     && eqb (r .used) (sumOf (bytesOn (t .volumes) (r .no)) (t .entries))
     && eqb (r .held) (sumOf (shardsOn (r .no)) (t .entries)))
 
+-- "a number .. held twice"
 abbrev pub sameRelayRow : Relay → Relay → Bool
 sameRelayRow a b = numbered (a .no .0) (b .no .0)
 

@@ -102,7 +102,7 @@ deleteIn t a (hit i v) =
     (accepted 0
     (withTokens (withVolumes t (set (t .volumes) i (withStatus v Deleted (v .grace) (t .clock)))) (cleared (isTokenOf (v .no)) freshToken (t .tokens)))))
 
--- "04 delete | account, volume | 2 3 8 | 0"
+-- "04 delete, 05 undelete | account, volume | 2 3 8 | 0"
 unfoldable pub deleteRule : Account → VolumeNo → Tables → TablesOutcome
 deleteRule a n t = deleteIn t a (volumeOf n t)
 
@@ -114,7 +114,7 @@ undeleteIn t a (hit i v) =
     (cond (not (isDeleted (v .status))) (refused t STATE)
     (accepted 0 (withVolumes t (set (t .volumes) i (withStatus v Active 0 0)))))
 
--- "05 undelete | account, volume | 2 3 8 | 0"
+-- "04 delete, 05 undelete | account, volume | 2 3 8 | 0"
 unfoldable pub undeleteRule : Account → VolumeNo → Tables → TablesOutcome
 undeleteRule a n t = undeleteIn t a (volumeOf n t)
 

@@ -1,1 +1,5 @@
 pub mod Text
+pub mod Scan
+pub mod PathLaws
+pub mod TextLaws
+pub mod Cases

@@ -1,10 +1,10 @@
 -- Document 01, "What the desk holds": paths, prefixes and names, as lists of bytes, and the texts that hold them. Assumes nothing.
-use mathlib.Core.Bool.{Bool, true, false, _&&_, _||_, cond, not}
+use mathlib.Core.Bool.{Bool, true, _&&_, _||_, cond, not}
 use mathlib.Core.List.{List, [], _∷_, _++_}
-use Prim.Native.Nat.{ℕ, _+_, _-_}
+use Prim.Native.Nat.{ℕ, _-_}
 use lib.Dec.{eqb, leb}
 use lib.ListN.{length, take, getD, replicate}
-use Rattle.lists.specs.Lists.{allOf, anyOf}
+use Rattle.lists.specs.Lists.{allOf}
 use Rattle.lists.specs.Bytes.{sameBytes, startsWith}
 use Rattle.text.specs.declared.Text.{Text}
 

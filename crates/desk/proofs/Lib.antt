@@ -1,0 +1,2 @@
+pub mod HealthLaws
+pub mod FindLaws

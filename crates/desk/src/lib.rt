@@ -1,0 +1,6 @@
+// The calls on the desk.
+mod answers;
+mod relays;
+mod sessions;
+mod tokens;
+mod volumes;

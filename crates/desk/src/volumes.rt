@@ -1,0 +1,100 @@
+// Create, on the tables.
+ghost use mathlib.Core.Path.{_≡_};
+ghost use mathlib.Core.Bool.{true};
+ghost use Prim.Native.Nat.{_<_};
+ghost use lib.ListN.{take};
+ghost use Rattle.lists.specs.Lists.{hit};
+ghost use Rattle.text.specs.Text.{nameLimit, pathLimit};
+ghost use Rattle.rules.specs.Sound.{shardsFit};
+ghost use Rattle.rules.specs.VolumeCalls.{newVolume, createIn, createRule};
+use super::answers::accept;
+use super::answers::refuse;
+use amount::Cap;
+use lists::Found;
+use rows::cap_fits;
+use rows::free_volume;
+use rows::name_taken;
+use rules::Account;
+use rules::Status;
+use rules::Tables;
+use rules::TablesOutcome;
+use rules::Volume;
+use rules::VolumeNo;
+use rules::numbers::BAD;
+use rules::numbers::NAME_TAKEN;
+use rules::numbers::ROOM;
+use rules::numbers::SPENT;
+use text::name::is_name;
+
+// K from 2 to 16, M from 1 to 8.
+pub(crate) fn shards_fit(k: u8, m: u8) -> bool
+    ensures { λ r. ⌜ r ≡ shardsFit k m ⌝ }
+{
+    if k < 2 {
+        return false;
+    }
+    if 16 < k {
+        return false;
+    }
+    if m < 1 {
+        return false;
+    }
+    m <= 8
+}
+
+fn make_volume(n: u32, a: Account, name: &[u8], k: u8, m: u8, cap: Cap) -> Volume
+    ensures { λ r. ⌜ r ≡ newVolume n a (take pathLimit (now (name .entry))) k m cap ⌝ }
+{
+    let text = text::to_text(name);
+    Volume {
+        no: VolumeNo(n),
+        owner: a,
+        name: text,
+        k,
+        m,
+        cap,
+        status: Status::Active,
+        balance: 0,
+        version: 0,
+        grace: 0,
+        deleted: 0,
+    }
+}
+
+// The new volume takes the row, and its number is the last one given.
+fn store_volume(t: Tables, i: usize, v: Volume) -> TablesOutcome
+    requires { ⌜ i < 8 ⌝ }
+    ensures { λ r. ⌜ r ≡ createIn t v (hit i v) ⌝ }
+{
+    let mut next = t;
+    next.volumes[i] = v;
+    next.last_volume = v.no.0;
+    accept(v.no.0 as u64, next)
+}
+
+pub(crate) fn create_on(t: Tables, a: Account, name: &[u8], k: u8, m: u8, cap: Cap) -> TablesOutcome
+    ensures { λ r. ⌜ r ≡ createRule a (now (name .entry)) k m cap t ⌝ }
+{
+    if !is_name(name) {
+        return refuse(t, BAD);
+    }
+    if !shards_fit(k, m) {
+        return refuse(t, BAD);
+    }
+    if !cap_fits(cap) {
+        return refuse(t, BAD);
+    }
+    let rows = t.volumes;
+    if name_taken(rows, a, name) {
+        return refuse(t, NAME_TAKEN);
+    }
+    let last = t.last_volume;
+    if 65535 <= last {
+        return refuse(t, SPENT);
+    }
+    let Found::At(i) = free_volume(rows) else {
+        return refuse(t, ROOM);
+    };
+    let v = make_volume(last + 1, a, name, k, m, cap);
+    store_volume(t, i, v)
+}
