@@ -1,16 +1,15 @@
 -- Laws of open and stage: one that was accepted is accepted again on later tables that are ready for what it left, with the same answer and the
 -- same slot. Assumes nothing.
-use mathlib.Core.Path.{_≡_, refl, sym, _∙_, ap}
-use mathlib.Core.Bool.{Bool, true, false, _&&_, _||_, false≢true, true≢false}
+use mathlib.Core.Path.{_≡_, sym, _∙_, ap}
+use mathlib.Core.Bool.{true, false≢true}
 use mathlib.Core.List.{List}
 use Prim.Native.Nat.{ℕ, _≤_, _<_}
 use native.Mathlib.Omega.{arith}
 use native.Mathlib.Decide.{ℕ-discrete, decLt}
-use borrow.Author.Tests.{eq-eqb, ne-eqb, leb-true, ltb-true}
-use lib.Dec.{eqb, leb}
+use borrow.Author.Tests.{eq-eqb}
 use lib.ListN.{length, List·getD-eq-default}
-use Rattle.lists.specs.Lists.{hit, find, allOf, noClash}
-use Rattle.lists.specs.BoolLaws.{and-left, and-right, and-both, not-both}
+use Rattle.lists.specs.Lists.{hit, find}
+use Rattle.lists.specs.BoolLaws.{and-both, not-both}
 use Rattle.lists.specs.TestLaws.{all-at, clash-at}
 use Rattle.rules.specs.declared.TokenNo.{TokenNo}
 use Rattle.rules.specs.declared.Hash.{Hash}
@@ -18,38 +17,18 @@ use Rattle.rules.specs.declared.Token.{Token}
 use Rattle.rules.specs.declared.Session.{Session}
 use Rattle.rules.specs.declared.Tables.{Tables}
 use Rattle.rules.specs.Fresh.{freshToken}
-use Rattle.rules.specs.Tables.{given, usedToken, freeToken, staged, isPut, volumeOf, tokenOf}
+use Rattle.rules.specs.Tables.{usedToken, staged, isPut, volumeOf, tokenOf}
 use Rattle.rules.specs.Outcome.{isAccepted}
-use Rattle.rules.specs.Sound.{isGiven, soundToken, sameToken, soundTokens, soundCounts, soundVolumes, soundEntries, soundRelays, soundTables}
+use Rattle.rules.specs.Sound.{soundToken, sameToken}
 use Rattle.rules.specs.SessionCalls.{openRule, newPut, stageRule}
+use Rattle.rules.specs.SoundParts.{Parts}
+use Rattle.rules.specs.RowFacts.{token-facts}
+use Rattle.rules.specs.RowsKept.{given-le}
 use Rattle.rules.specs.Later.{tokenRow, SameToken, Later, ReadyFor, Ready}
 use Rattle.rules.specs.FindLaws.{volume-number, token-number, token-used, token-at}
 use Rattle.rules.specs.FoundLaws.{Opens, openedBy, open-found, open-so, Stages, stage-found, stage-so, stage-put-same, stage-before}
 
 -- A token number that was given stands for the same token, as long as it is in the table.
-tokens-sound : (t : Tables) → soundTables t ≡ true → soundTokens t ≡ true
-unfolding soundTables
-tokens-sound t e =
-    and-right (soundCounts t && soundVolumes t && soundEntries t) (soundTokens t)
-    (and-left (soundCounts t && soundVolumes t && soundEntries t && soundTokens t) (soundRelays t) e)
-
-first-of : (a b c d e f g h : Bool) → (a && b && c && d && e && f && g && h) ≡ true → a ≡ true
-first-of true b c d e f g h p = refl
-first-of false b c d e f g h p = p
-
-second-or : (a b : Bool) → a ≡ false → (a || b) ≡ true → b ≡ true
-second-or true b p q = absurd (true≢false p)
-second-or false b p q = q
-
-used-number : (n : ℕ) → given n ≡ true → eqb n 0 ≡ false
-used-number n g = let h = ltb-true 0 n g in ne-eqb n 0 (λ e. omega arith)
-
--- a token in the table has a number that was given
-row-given : (t : Tables) (k : Token) → soundToken t k ≡ true → usedToken k ≡ true → k .no .0 ≤ t .«last_token»
-unfolding soundToken
-row-given t k e u =
-    let p = first-of (isGiven (t .«last_token») (k .no .0)) _ _ _ _ _ _ _ (second-or (freeToken k) _ (used-number (k .no .0) u) e) in
-    leb-true (k .no .0) (t .«last_token») (and-right (leb 1 (k .no .0)) (leb (k .no .0) (t .«last_token»)) p)
 
 -- a row that holds a token is in the table
 row-below : (t : Tables) (j : ℕ) → usedToken (tokenRow t j) ≡ true → j < length (t .tokens)
@@ -59,47 +38,42 @@ row-below t j u = go (decLt j (length (t .tokens)))
     go (yes h) = h
     go (no h) = absurd (false≢true (rw (List·getD-eq-default (t .tokens) freshToken {n = j} (omega arith)) at u))
 
-token-given : (t : Tables) (i : ℕ) → soundTokens t ≡ true → usedToken (tokenRow t i) ≡ true → tokenRow t i .no .0 ≤ t .«last_token»
-unfolding soundTokens
-token-given t i e u =
-    row-given t (tokenRow t i)
-    (all-at (soundToken t) (t .tokens) (and-left (allOf (soundToken t) (t .tokens)) (noClash sameToken (t .tokens)) e) i (row-below t i u) freshToken)
-    u
+-- its number was given
+row-given : (t : Tables) (i : ℕ) → Parts t → usedToken (tokenRow t i) ≡ true → tokenRow t i .no .0 ≤ t .«last_token»
+row-given t i p u =
+    given-le (t .«last_token») (tokenRow t i .no .0)
+    (token-facts t (tokenRow t i) u (all-at (soundToken t) (t .tokens) (p .tokens) i (row-below t i u) freshToken) .numbered)
 
--- no two rows have one number
-same-clash : (a b : Token) → usedToken a ≡ true → b .no ≡ a .no → sameToken a b ≡ false → ⊥
-same-clash a b u e f = not-both (and-both u (eq-eqb (b .no .0) (a .no .0) (ap (λ n. n .0) e))) f
+-- no other row has its number
+row-order : (t : Tables) (i j : ℕ) → Parts t → i < j → usedToken (tokenRow t i) ≡ true → tokenRow t j .no ≡ tokenRow t i .no → ⊥
+row-order t i j p h u e =
+    not-both (and-both u (eq-eqb (tokenRow t j .no .0) (tokenRow t i .no .0) (ap (λ n. n .0) e)))
+    (clash-at sameToken (t .tokens) (p .token-numbers) i j h (row-below t j (rw e u)) freshToken)
 
-row-order : (t : Tables) (i j : ℕ) → soundTokens t ≡ true → i < j → usedToken (tokenRow t i) ≡ true → tokenRow t j .no ≡ tokenRow t i .no → ⊥
-unfolding soundTokens
-row-order t i j e h u f =
-    same-clash (tokenRow t i) (tokenRow t j) u f
-    (clash-at sameToken (t .tokens) (and-right (allOf (soundToken t) (t .tokens)) (noClash sameToken (t .tokens)) e) i j h (row-below t j (rw f u)) freshToken)
-
-row-once : (t : Tables) (i j : ℕ) → soundTokens t ≡ true → usedToken (tokenRow t i) ≡ true → tokenRow t j .no ≡ tokenRow t i .no → j ≡ i
-row-once t i j e u f = go (ℕ-discrete j i) (decLt i j)
+row-once : (t : Tables) (i j : ℕ) → Parts t → usedToken (tokenRow t i) ≡ true → tokenRow t j .no ≡ tokenRow t i .no → j ≡ i
+row-once t i j p u e = go (ℕ-discrete j i) (decLt i j)
   where
     go : Dec (j ≡ i) → Dec (i < j) → j ≡ i
     go (yes q) c = q
-    go (no n) (yes h) = absurd (row-order t i j e h u f)
-    go (no n) (no h) = absurd (row-order t j i e (omega arith) (rw f u) (sym f))
+    go (no n) (yes h) = absurd (row-order t i j p h u e)
+    go (no n) (no h) = absurd (row-order t j i p (omega arith) (rw e u) (sym e))
 
 -- so the token that a search finds later is the one that it found before
-token-same : (n : TokenNo) (t t′ : Tables) (i i′ : ℕ) (k k′ : Token) → soundTokens t ≡ true → Later t t′ → tokenOf n t ≡ hit i k → tokenOf n t′ ≡ hit i′ k′
+token-same : (n : TokenNo) (t t′ : Tables) (i i′ : ℕ) (k k′ : Token) → Parts t → Later t t′ → tokenOf n t ≡ hit i k → tokenOf n t′ ≡ hit i′ k′
     → SameToken k k′
-token-same n t t′ i i′ k k′ e l f f′ =
+token-same n t t′ i i′ k k′ p l f f′ =
     let here = token-at n t i k f in
     let used : usedToken (tokenRow t i) ≡ true = rw here (token-used n t i k f) in
     let no : k′ .no ≡ tokenRow t i .no = token-number n t′ i′ k′ f′ ∙ sym (token-number n t i k f) ∙ ap (λ x. x .no) (sym here) in
-    let same : SameToken (tokenRow t i′) k′ = (rw (token-at n t′ i′ k′ f′) at (l .kept i′)) (token-used n t′ i′ k′ f′) (rw no (token-given t i e used)) in
-    rw (ap (tokenRow t) (row-once t i i′ e used (same .no ∙ no)) ∙ here) at same
+    let same : SameToken (tokenRow t i′) k′ = (rw (token-at n t′ i′ k′ f′) at (l .kept i′)) (token-used n t′ i′ k′ f′) (rw no (row-given t i p used)) in
+    rw (ap (tokenRow t) (row-once t i i′ p used (same .no ∙ no)) ∙ here) at same
 
 -- An open or a stage, again: accepted on the tables t, and now on later tables t′ that are ready for what it left.
-module _ (t t′ : Tables) (s : Session) (e : soundTables t ≡ true) (l : Later t t′) where
+module _ (t t′ : Tables) (s : Session) (p : Parts t) (l : Later t t′) where
   opens-later : (n : TokenNo) (o : Opens n t s) → ReadyFor t′ (openedBy o) → (o′ : Opens n t′ s) × (openedBy o′ ≡ openedBy o)
   opens-later n o r =
       let found : tokenOf n t′ ≡ hit (r .tokenRow) (r .token) = ap (λ m. tokenOf m t′) (sym (token-number n t (o .tokenRow) (o .token) (o .tokenFound))) ∙ r .tokenFound in
-      let same = token-same n t t′ (o .tokenRow) (r .tokenRow) (o .token) (r .token) (tokens-sound t e) l (o .tokenFound) found in
+      let same = token-same n t t′ (o .tokenRow) (r .tokenRow) (o .token) (r .token) p l (o .tokenFound) found in
       let at-volume = volume-number (o .token .volume) t (o .volumeRow) (o .volume) (o .volumeFound) in
       let no = volume-number (o .volume .no) t′ (r .volumeRow) (r .volume) (r .volumeFound) in (
         record {
@@ -131,7 +105,7 @@ module _ (t t′ : Tables) (s : Session) (e : soundTables t ≡ true) (l : Later
   stages-later : (path : List ℕ) (size : ℕ) → Stages path size t s → Ready t′ s → Stages path size t′ s
   stages-later path size o ready =
       let r = ready (o .running) in
-      let same = token-same (s .token) t t′ (o .tokenRow) (r .tokenRow) (o .token) (r .token) (tokens-sound t e) l (o .tokenFound) (r .tokenFound) in
+      let same = token-same (s .token) t t′ (o .tokenRow) (r .tokenRow) (o .token) (r .token) p l (o .tokenFound) (r .tokenFound) in
       record {
         good = o .good;
         running = o .running;

@@ -23,8 +23,8 @@ use Rattle.rules.specs.Outcome.{isAccepted, slotRefused, slotAccepted}
 use Rattle.rules.specs.VolumeCalls.{isActive}
 use Rattle.rules.specs.SessionCalls.{opened, openVolume, openToken, openRule, newPut, stagePut, stageToken, stageRule}
 use Rattle.rules.specs.Commit.{commitToken, commitVolume, commitRule}
+use Rattle.rules.specs.BranchLaws.{cond-case}
 use Rattle.rules.specs.Later.{ReadyFor, Ready}
-use Rattle.rules.specs.LaterLaws.{either}
 
 -- An accepted call passed each of its checks.
 pub passed : (t : Tables) (s : Session) (b : Bool) (n : ℕ) (o : SlotOutcome) → eqb n 0 ≡ false → isAccepted (cond b (slotRefused t s n) o .answer) ≡ true
@@ -144,8 +144,8 @@ stage-put-keeps : (t : Tables) (s : Session) (p : Put) (h : Hit Put) → SameSes
 unfolding stagePut
 stage-put-keeps t s p (hit j old) = record { token = refl; volume = refl; version = refl }
 stage-put-keeps t s p miss =
-    either {A = SlotOutcome} (λ o. SameSession s (o .session)) (leb putRows (s .count)) _ _ (record { token = refl; volume = refl; version = refl })
-    (record { token = refl; volume = refl; version = refl })
+    cond-case {A = SlotOutcome} (λ o. SameSession s (o .session)) (leb putRows (s .count)) _ _ (λ b. record { token = refl; volume = refl; version = refl })
+    (λ b. record { token = refl; volume = refl; version = refl })
 
 -- so tables that are ready for what it leaves are ready for what it found
 ready-same : (t : Tables) (s s′ : Session) → SameSession s s′ → Ready t s′ → Ready t s

@@ -2,28 +2,23 @@
 -- Assumes nothing.
 use mathlib.Core.Path.{_≡_, refl, _∙_, ap}
 use mathlib.Core.Logic.{_≢_}
-use mathlib.Core.Bool.{Bool, true, false, cond, false≢true}
-use mathlib.Core.List.{List, [], _∷_}
+use mathlib.Core.Bool.{Bool, true, false, cond}
 use Prim.Native.Nat.{ℕ, zero, suc, _≤_}
 use native.Mathlib.Decide.{ℕ-discrete}
 use borrow.Author.Tests.{le-leb, leb-false}
 use lib.Dec.{leb}
-use lib.ListN.{length, getD, replicate, length-set}
+use lib.ListN.{length, getD, replicate}
 use lib.Seq.{getD-set-same, getD-set-other}
-use Rattle.lists.specs.Lists.{allOf, anyOf, noClash}
-use Rattle.rules.specs.declared.Tables.{Tables}
 use Rattle.rules.specs.declared.Desk.{Desk}
 use Rattle.rules.specs.declared.Outcome.{Outcome}
 use Rattle.rules.specs.declared.SlotOutcome.{SlotOutcome}
-use Rattle.rules.specs.Limits.{tokenRows, slotRows}
+use Rattle.rules.specs.Limits.{slotRows}
 use Rattle.rules.specs.Numbers.{BAD}
-use Rattle.rules.specs.Fresh.{freshToken, freshSession, freshTables, freshDesk}
-use Rattle.rules.specs.Tables.{usedToken}
+use Rattle.rules.specs.Fresh.{freshSession, freshDesk}
 use Rattle.rules.specs.Outcome.{slotRefused, deskRefused}
-use Rattle.rules.specs.Sound.{soundVolume, sameName, soundEntry, sameEntry, soundToken, soundRelay, soundSession, soundVolumes, soundEntries, soundTokens, soundRelays, soundTables, sound}
-use Rattle.rules.specs.Calls.{run, Ask, askRule, Work, workRule, Call, ask, onSlot, withSlot, rule, step}
-use Rattle.rules.specs.Later.{Later, Tidy}
-use Rattle.rules.specs.LaterLaws.{ask-later}
+use Rattle.rules.specs.Sound.{sound}
+use Rattle.rules.specs.Calls.{Ask, askRule, Work, workRule, Call, ask, onSlot, withSlot, rule, step}
+use Rattle.rules.specs.Later.{Tidy}
 use Rattle.rules.specs.SlotLaws.{slotRule, slot-does}
 use Rattle.rules.specs.InOrder.{Stays, slotOf, InOrder}
 
@@ -34,15 +29,6 @@ fresh-row (suc n) (suc i) x = fresh-row n i x
 
 pub fresh-slot : (s : ℕ) → slotOf (freshDesk 0) s ≡ freshSession
 fresh-slot s = fresh-row slotRows s freshSession
-
-module _ (Holds : Desk → Type 0) (stays : Stays Holds) where
-  pub fresh-in-order : (rate : ℕ) → InOrder Holds (freshDesk rate)
-  fresh-in-order rate = record {
-    holds = stays .fresh rate;
-    passes = stays .passes (freshDesk rate) (stays .fresh rate);
-    slots = refl;
-    tidy = λ s b. fresh-slot s;
-  }
 
 -- a call on the tables leaves the slots
 pub ask-step : (a : Ask) (d : Desk) → sound d ≡ true
@@ -90,13 +76,6 @@ module _ (slot : ℕ) (w : Work) (d : Desk) (passes : sound d ≡ true) (slots :
       go true = refl
       go false = getD-set-other (d .sessions) slot s (done .session) freshSession n
 
-  pub slot-count : length (step (onSlot slot w) d .desk .sessions) ≡ slotRows
-  slot-count = ap (λ o. length (o .desk .sessions)) slot-step ∙ go (leb slotRows slot)
-    where
-      go : (b : Bool) → length (after b .desk .sessions) ≡ slotRows
-      go true = slots
-      go false = length-set (d .sessions) slot (done .session) ∙ slots
-
   pub slot-tidy : ((s : ℕ) → Tidy (slotOf d s)) → (s : ℕ) → Tidy (slotOf (step (onSlot slot w) d .desk) s)
   slot-tidy tidy s = go (ℕ-discrete s slot)
     where
@@ -104,25 +83,20 @@ module _ (slot : ℕ) (w : Work) (d : Desk) (passes : sound d ≡ true) (slots :
       go (yes e) = rw (e, slot-session) (slot-does slot w (d .tables) (slotOf d slot) .tidy (tidy slot))
       go (no n) = rw (slot-others s n) (tidy s)
 
--- Every call keeps a desk in order.
+-- A fresh desk is in order, and every call keeps a desk in order.
 module _ (Holds : Desk → Type 0) (stays : Stays Holds) where
+  pub fresh-in-order : (rate : ℕ) → InOrder Holds (freshDesk rate)
+  fresh-in-order rate = record { holds = stays .fresh rate; tidy = λ s b. fresh-slot s }
+
   pub call-in-order : (c : Call) (d : Desk) → InOrder Holds d → InOrder Holds (step c d .desk)
-  call-in-order (ask a) d i =
-      let h = stays .kept (ask a) d (i .holds) in
-      record {
-        holds = h;
-        passes = stays .passes (step (ask a) d .desk) h;
-        slots = rw (ask-step a d (i .passes)) (i .slots);
-        tidy = λ s. rw (ask-step a d (i .passes)) (i .tidy s);
-      }
-  call-in-order (onSlot slot w) d i =
-      let h = stays .kept (onSlot slot w) d (i .holds) in
-      record {
-        holds = h;
-        passes = stays .passes (step (onSlot slot w) d .desk) h;
-        slots = slot-count slot w d (i .passes) (i .slots);
-        tidy = slot-tidy slot w d (i .passes) (i .slots) (i .tidy);
-      }
+  call-in-order (ask a) d i = record {
+    holds = stays .kept (ask a) d (i .holds);
+    tidy = λ s. rw (ask-step a d (stays .passes d (i .holds))) (i .tidy s);
+  }
+  call-in-order (onSlot slot w) d i = record {
+    holds = stays .kept (onSlot slot w) d (i .holds);
+    tidy = slot-tidy slot w d (stays .passes d (i .holds)) (stays .slots d (i .holds)) (i .tidy);
+  }
 
 -- A call on a slot above 3 is refused, whatever the desk.
 pub above-refused : (slot : ℕ) (w : Work) (d : Desk) → slotRows ≤ slot → step (onSlot slot w) d ≡ deskRefused d BAD

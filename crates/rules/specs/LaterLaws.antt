@@ -1,12 +1,12 @@
 -- Laws of Later: every call on the tables leaves later tables. Assumes nothing.
-use mathlib.Core.Path.{_≡_, refl, sym, _∙_, ap}
+use mathlib.Core.Path.{_≡_, refl, _∙_}
 use mathlib.Core.Bool.{Bool, true, false, cond, false≢true}
 use mathlib.Core.List.{List, [], _∷_, map}
 use Prim.Native.Nat.{ℕ, _+_, _≤_, zero, suc}
 use native.Mathlib.Omega.{arith}
 use native.Mathlib.Nat.{le-refl}
 use lib.Dec.{leb}
-use lib.ListN.{length, length-set, length-map, getD, set}
+use lib.ListN.{getD, set}
 use Rattle.amount.specs.declared.Cap.{Cap}
 use Rattle.lists.specs.Lists.{Hit, miss, hit, keep}
 use Rattle.rules.specs.declared.VolumeNo.{VolumeNo}
@@ -19,22 +19,18 @@ use Rattle.rules.specs.declared.Token.{Token}
 use Rattle.rules.specs.declared.Relay.{Relay}
 use Rattle.rules.specs.declared.Tables.{Tables}
 use Rattle.rules.specs.declared.TablesOutcome.{TablesOutcome}
-use Rattle.rules.specs.Fresh.{noToken, freshToken}
-use Rattle.rules.specs.Tables.{usedToken, volumeOf, tokenOf, relayOf, withClock, cleared}
-use Rattle.rules.specs.Scope.{ScopeArg, toScope, descends}
+use Rattle.rules.specs.Fresh.{freshToken}
+use Rattle.rules.specs.Tables.{volumeOf, tokenOf, relayOf, withClock, cleared}
+use Rattle.rules.specs.Scope.{ScopeArg, descends}
 use Rattle.rules.specs.Rent.{epochEnds}
 use Rattle.rules.specs.Outcome.{refused}
 use Rattle.rules.specs.VolumeCalls.{isTokenOf, createIn, createRule, depositIn, depositRule, deleteIn, deleteRule, undeleteIn, undeleteRule, dropEntries, removeEntry, removeIn, removeRule}
-use Rattle.rules.specs.TokenCalls.{tokenIn, newToken, nextToken, grantIn, grantRule, attenuateIn, attenuateRule, revokeOwner, revokeIn, revokeRule, lookEntry, lookIn, lookRule}
+use Rattle.rules.specs.TokenCalls.{tokenIn, newToken, grantIn, grantRule, attenuateIn, attenuateRule, revokeOwner, revokeIn, revokeRule, lookEntry, lookIn, lookRule}
 use Rattle.rules.specs.RelayCalls.{registerIn, registerRule, heartbeatIn, heartbeatRule}
 use Rattle.rules.specs.Advance.{isDue, tokenOfOne, relaysLeave, settle, collect, atEpoch, advanced, advanceRule}
 use Rattle.rules.specs.Calls.{Ask, advance, create, deposit, delete, undelete, grant, attenuate, revoke, remove, look, register, heartbeat, askRule}
+use Rattle.rules.specs.BranchLaws.{cond-case}
 use Rattle.rules.specs.Later.{tokenRow, SameToken, Kept, Later}
-
--- what holds of both results of a check holds of its result
-pub either : {A : Type 0} (P : A → Type 0) (b : Bool) (x y : A) → P x → P y → P (cond b x y)
-either P true x y p q = p
-either P false x y p q = q
 
 -- Rows of the token table.
 
@@ -48,7 +44,7 @@ kept-same last k used given = same-token k
 kept-cleared : (last : ℕ) (p : Token → Bool) (l : List Token) (j : ℕ) → Kept last (getD l j freshToken) (getD (cleared p freshToken l) j freshToken)
 unfolding cleared
 kept-cleared last p [] j = kept-same last freshToken
-kept-cleared last p (x ∷ xs) zero = either (Kept last x) (p x) freshToken x (λ u h. absurd (false≢true u)) (kept-same last x)
+kept-cleared last p (x ∷ xs) zero = cond-case (Kept last x) (p x) freshToken x (λ b u h. absurd (false≢true u)) (λ b. kept-same last x)
 kept-cleared last p (x ∷ xs) (suc j) = kept-cleared last p xs j
 
 -- every row is changed in what no session reads

@@ -4,8 +4,7 @@ use mathlib.Core.Bool.{true, false}
 use Prim.Native.Nat.{ℕ}
 use native.Mathlib.Omega.{arith}
 use lib.Dec.{leb}
-use Rattle.lists.specs.Lists.{allOf}
-use Rattle.lists.specs.BoolLaws.{and-left}
+use lib.ListN.{length}
 use Rattle.serial.specs.Second.{Kind, plain, on}
 use Rattle.serial.specs.Laws.{Prepares, Silent, Ends}
 use Rattle.serial.specs.Local.{Local, Passes, Rules, laws}
@@ -18,8 +17,9 @@ use Rattle.rules.specs.Limits.{slotRows}
 use Rattle.rules.specs.Numbers.{BAD}
 use Rattle.rules.specs.Fresh.{freshSession, freshDesk}
 use Rattle.rules.specs.Outcome.{refusal, isAccepted}
-use Rattle.rules.specs.Sound.{soundSession, soundTables, sound}
+use Rattle.rules.specs.Sound.{sound}
 use Rattle.rules.specs.Calls.{askRule, Work, opens, stages, commits, abandons, workRule, Call, ask, onSlot}
+use Rattle.rules.specs.SoundParts.{Parts, tables-sound}
 use Rattle.rules.specs.Serial.{kindOf, role, stepOf, tablesOf, Demand3}
 use Rattle.rules.specs.Later.{Later, Ready, Tidy}
 use Rattle.rules.specs.LaterLaws.{later-refl, later-trans, ask-later}
@@ -38,14 +38,6 @@ abbrev workOf : Call → Tables → Session → Answer × Tables × Session
 workOf (ask a) t s = (refusal BAD, t, s)
 workOf (onSlot slot w) t s = let o = slotRule slot w t s in (o .answer, o .tables, o .session)
 
--- What the laws ask of tables and a slot: the test of the tables passed.
-abbrev Fit : Tables → Type 0
-Fit t = soundTables t ≡ true
-
-fit : (d : Desk) → sound d ≡ true → Fit (d .tables)
-unfolding sound
-fit d p = and-left (soundTables (d .tables)) (allOf (soundSession (d .tables)) (d .sessions)) p
-
 plain≢on : {k : Kind} {s : ℕ} → plain ≡ on k s → ⊥
 plain≢on p = let z : _≡_ {A = ℕ} 0 1 = cc in omega arith
 
@@ -56,25 +48,35 @@ on-kind : {k k′ : Kind} {s s′ : ℕ} → on k′ s′ ≡ on k s → k′ �
 on-kind e = cc
 
 -- the step runs the two rules and touches nothing else
-local : (Holds : Desk → Type 0) → Stays Holds → (rate : ℕ) → Local role stepOf tablesOf slotOf freshSession (freshDesk rate) (InOrder Holds) Fit Tidy askOf workOf
-local Holds stays rate = record {
-  fresh-sound = fresh-in-order Holds stays rate;
-  fresh-idle = fresh-slot;
-  stays-sound = call-in-order Holds stays;
-  fit = λ d i. fit d (i .passes);
-  tidy = λ d i s. i .tidy s;
-  plain-answer = elim [ ask a ↦ λ d r i. rw (ask-step a d (i .passes)) | onSlot slot w ↦ λ d r i. absurd (plain≢on (sym r)) ];
-  plain-base = elim [ ask a ↦ λ d r i. rw (ask-step a d (i .passes)) | onSlot slot w ↦ λ d r i. absurd (plain≢on (sym r)) ];
-  plain-cells = elim [ ask a ↦ λ d r i t. rw (ask-step a d (i .passes)) | onSlot slot w ↦ λ d r i t. absurd (plain≢on (sym r)) ];
-  slot-answer = λ k s. elim [ ask a ↦ λ d r i. absurd (plain≢on r) | onSlot slot w ↦ λ d r i. rw (← on-slot r) (slot-answer slot w d (i .passes) (i .slots)) ];
-  slot-base = λ k s. elim [ ask a ↦ λ d r i. absurd (plain≢on r) | onSlot slot w ↦ λ d r i. rw (← on-slot r) (slot-tables slot w d (i .passes) (i .slots)) ];
-  slot-cell = λ k s. elim [ ask a ↦ λ d r i. absurd (plain≢on r) | onSlot slot w ↦ λ d r i. rw (← on-slot r) (slot-session slot w d (i .passes) (i .slots)) ];
-  slot-others = λ k s. elim [ ask a ↦ λ d r i t n. absurd (plain≢on r) | onSlot slot w ↦ λ d r i t n. slot-others slot w d (i .passes) (i .slots) t (λ e. n (e ∙ on-slot r)) ];
-}
+module _ (Holds : Desk → Type 0) (stays : Stays Holds) where
+  passes : (d : Desk) → InOrder Holds d → sound d ≡ true
+  passes d i = stays .passes d (i .holds)
+
+  four : (d : Desk) → InOrder Holds d → length (d .sessions) ≡ slotRows
+  four d i = stays .slots d (i .holds)
+
+  local : (rate : ℕ) → Local role stepOf tablesOf slotOf freshSession (freshDesk rate) (InOrder Holds) Parts Tidy askOf workOf
+  local rate = record {
+    fresh-sound = fresh-in-order Holds stays rate;
+    fresh-idle = fresh-slot;
+    stays-sound = call-in-order Holds stays;
+    fit = λ d i. tables-sound d (passes d i);
+    tidy = λ d i s. i .tidy s;
+    plain-answer = elim [ ask a ↦ λ d r i. rw (ask-step a d (passes d i)) | onSlot slot w ↦ λ d r i. absurd (plain≢on (sym r)) ];
+    plain-base = elim [ ask a ↦ λ d r i. rw (ask-step a d (passes d i)) | onSlot slot w ↦ λ d r i. absurd (plain≢on (sym r)) ];
+    plain-cells = elim [ ask a ↦ λ d r i t. rw (ask-step a d (passes d i)) | onSlot slot w ↦ λ d r i t. absurd (plain≢on (sym r)) ];
+    slot-answer = λ k s. elim [ ask a ↦ λ d r i. absurd (plain≢on r) | onSlot slot w ↦ λ d r i. rw (← on-slot r) (slot-answer slot w d (passes d i) (four d i)) ];
+    slot-base = λ k s. elim [ ask a ↦ λ d r i. absurd (plain≢on r) | onSlot slot w ↦ λ d r i. rw (← on-slot r) (slot-tables slot w d (passes d i) (four d i)) ];
+    slot-cell = λ k s. elim [ ask a ↦ λ d r i. absurd (plain≢on r) | onSlot slot w ↦ λ d r i. rw (← on-slot r) (slot-session slot w d (passes d i) (four d i)) ];
+    slot-others = λ k s. elim [
+      | ask a ↦ λ d r i t n. absurd (plain≢on r)
+      | onSlot slot w ↦ λ d r i t n. slot-others slot w d (passes d i) (four d i) t (λ e. n (e ∙ on-slot r))
+    ];
+  }
 
 -- The rules on the tables and one slot.
 abbrev Pass : Kind → ℕ → Call → Tables → Session → Type 0
-Pass = Passes role isAccepted Fit Tidy workOf
+Pass = Passes role isAccepted Parts Tidy workOf
 
 -- an accepted call on a slot passed the test of the slot
 slot-passed : (slot : ℕ) (w : Work) (t : Tables) (s : Session) → isAccepted (slotRule slot w t s .answer) ≡ true
@@ -121,7 +123,7 @@ ready-before k s (onSlot slot commits) t x i p t′ re = absurd (prepares slot c
 ready-before k s (onSlot slot abandons) t x i p t′ re = absurd (prepares slot abandons (p .is) i)
 
 again : (k : Kind) (s : ℕ) (c : Call) (t : Tables) (x : Session) → Prepares k → Pass k s c t x
-    → (t′ : Tables) → Fit t′ → Later t t′ → Ready t′ (workOf c t x .2)
+    → (t′ : Tables) → Parts t′ → Later t t′ → Ready t′ (workOf c t x .2)
     → (workOf c t′ x .0 ≡ workOf c t x .0) × (workOf c t′ x .2 ≡ workOf c t x .2)
 unfolding workRule
 again k s (ask a) t x i p t′ f l re = absurd (plain≢on (p .is))
@@ -142,7 +144,7 @@ commits-ready s (onSlot slot (opens n)) t x p = absurd (let z : _≡_ {A = ℕ} 
 commits-ready s (onSlot slot (stages path size h)) t x p = absurd (let z : _≡_ {A = ℕ} 0 1 = cc (on-kind (p .is)) in omega arith)
 commits-ready s (onSlot slot abandons) t x p = absurd (let z : _≡_ {A = ℕ} 0 1 = cc (on-kind (p .is)) in omega arith)
 
-ruled : Rules role isAccepted freshSession Fit Tidy Later Ready askOf workOf
+ruled : Rules role isAccepted freshSession Parts Tidy Later Ready askOf workOf
 ruled = record {
   later-refl = later-refl;
   later-trans = later-trans;
@@ -161,4 +163,4 @@ ruled = record {
 pub demand3-from : (Holds : Desk → Type 0) → Stays Holds → Demand3
 demand3-from Holds stays rate =
     serial role isAccepted stepOf tablesOf slotOf freshSession (freshDesk rate) (InOrder Holds) Later Ready
-    (laws role isAccepted stepOf tablesOf slotOf freshSession (freshDesk rate) (InOrder Holds) Fit Tidy Later Ready askOf workOf (local Holds stays rate) ruled)
+    (laws role isAccepted stepOf tablesOf slotOf freshSession (freshDesk rate) (InOrder Holds) Parts Tidy Later Ready askOf workOf (local Holds stays rate) ruled)

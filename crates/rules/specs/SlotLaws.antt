@@ -1,23 +1,19 @@
 -- Laws of open, stage, commit and abandon: what each leaves of the tables and its slot, whatever it answers, and what an accepted one found.
 -- Assumes nothing.
-use mathlib.Core.Path.{_≡_, refl, sym, _∙_, ap}
+use mathlib.Core.Path.{_≡_, refl, sym, _∙_}
 use mathlib.Core.Bool.{Bool, true, false, cond, false≢true, true≢false}
-use mathlib.Core.List.{List, [], _∷_, map}
-use Prim.Native.Nat.{ℕ, _+_}
-use native.Mathlib.Omega.{arith}
+use mathlib.Core.List.{List}
+use Prim.Native.Nat.{ℕ}
 use native.Mathlib.Nat.{le-refl}
 use borrow.Author.Tests.{not-false}
 use lib.Dec.{eqb, leb}
-use lib.ListN.{length, length-set, length-map}
-use Rattle.lists.specs.Lists.{Hit, miss, hit, find, anyOf}
+use Rattle.lists.specs.Lists.{Hit, miss, hit, anyOf}
 use Rattle.serial.specs.Second.{Kind}
 use Rattle.serial.specs.Laws.{Silent, Ends}
-use Rattle.rules.specs.declared.VolumeNo.{VolumeNo}
 use Rattle.rules.specs.declared.TokenNo.{TokenNo}
 use Rattle.rules.specs.declared.Hash.{Hash}
 use Rattle.rules.specs.declared.Placement.{Placement}
 use Rattle.rules.specs.declared.Volume.{Volume}
-use Rattle.rules.specs.declared.Entry.{Entry}
 use Rattle.rules.specs.declared.Token.{Token}
 use Rattle.rules.specs.declared.Relay.{Relay}
 use Rattle.rules.specs.declared.Put.{Put}
@@ -27,17 +23,17 @@ use Rattle.rules.specs.declared.SlotOutcome.{SlotOutcome}
 use Rattle.rules.specs.Limits.{slotRows}
 use Rattle.rules.specs.Numbers.{BAD}
 use Rattle.rules.specs.Fresh.{freshSession}
-use Rattle.rules.specs.Tables.{given, busy, staged, freeEntry, isToken, tokenOf}
+use Rattle.rules.specs.Tables.{given, busy, staged, isToken, tokenOf}
 use Rattle.rules.specs.Scope.{family}
-use Rattle.rules.specs.Relays.{shardSize, tooFew, taken, placementOf, loaded}
 use Rattle.rules.specs.Outcome.{isAccepted, slotRefused, slotAccepted}
-use Rattle.rules.specs.SessionCalls.{opened, openVolume, openToken, openRule, withPuts, stagePut, stageToken, stageRule, abandonRule}
-use Rattle.rules.specs.Commit.{stagedBytes, Placed, noPlace, placed, andPlaced, placeAll, storeNew, storeAt, storeAll, charged, committed, commitPlaced, commitLimits, commitToken, commitVolume, commitRule}
+use Rattle.rules.specs.SessionCalls.{openVolume, openToken, openRule, stagePut, stageToken, stageRule, abandonRule}
+use Rattle.rules.specs.Commit.{stagedBytes, Placed, noPlace, placed, charged, committed, commitPlaced, commitLimits, commitToken, commitVolume, commitRule}
 use Rattle.rules.specs.Calls.{Work, opens, stages, commits, abandons, workRule}
+use Rattle.rules.specs.BranchLaws.{cond-case}
 use Rattle.rules.specs.Serial.{kindOf}
 use Rattle.rules.specs.Later.{SameToken, Later, Tidy}
 use Rattle.rules.specs.FindLaws.{token-used}
-use Rattle.rules.specs.LaterLaws.{either, same-token, kept-map, later-refl}
+use Rattle.rules.specs.LaterLaws.{same-token, kept-map, later-refl}
 
 -- What a call of the kind k does to the tables t and the slot s, whatever it answers.
 pub record Does (k : Kind) (t : Tables) (s : Session) (o : SlotOutcome) : Type 0 where
@@ -116,7 +112,7 @@ stage-does path size x t s = search (does-check, stage-token-does, not-false)
 -- a commit changes no token but in its used bytes
 charged-same : (ks : List Token) (bytes : ℕ) (k : Token) → SameToken k (charged ks bytes k)
 unfolding charged
-charged-same ks bytes k = either (SameToken k) (anyOf (isToken (k .no)) ks) _ k (record { no = refl; volume = refl; scope = refl }) (same-token k)
+charged-same ks bytes k = cond-case (SameToken k) (anyOf (isToken (k .no)) ks) _ k (λ b. record { no = refl; volume = refl; scope = refl }) (λ b. same-token k)
 
 committed-later : (t : Tables) (i : ℕ) (v : Volume) (k : Token) (ps : List Put) (places : List Placement) (rs : List Relay)
     → Later t (committed t i v k ps places rs)
