@@ -64,3 +64,15 @@ pub mod Reached
 pub mod VolumesChange
 pub mod CreateSound
 pub mod NewToken
+pub mod Serial
+pub mod Later
+pub mod FindLaws
+pub mod LaterLaws
+pub mod SlotLaws
+pub mod FoundLaws
+pub mod AgainLaws
+pub mod InOrder
+pub mod InOrderLaws
+pub mod SerialLaws
+pub mod SerialCase
+pub mod Demand3
