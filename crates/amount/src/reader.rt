@@ -17,10 +17,10 @@ use crate::TEXT;
 use crate::TOO_LARGE;
 use crate::UnitFound;
 use crate::digits::digit_run;
-use lists::same_bytes;
 use crate::digits::ten_to;
 use crate::unit::size;
 use crate::unit::unit_after;
+use lists::same_bytes;
 
 // The count of bytes: the fraction's part first, since 23 comes before 24. The fraction times the
 // unit stays below 10^9 × 2^30, and the whole part is multiplied only where its product is at most

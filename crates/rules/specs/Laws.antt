@@ -59,3 +59,4 @@ pub mod InOrderLaws
 pub mod SerialLaws
 pub mod SerialCase
 pub mod Demand3
+pub mod RefusalLaws

@@ -1,10 +1,12 @@
 -- What is proved of the rules, over every list of calls from a fresh desk, at every rate. Each statement can be read without its proof, which
 -- stands in Laws. Assumes nothing.
 use mathlib.Core.Path.{_≡_}
-use mathlib.Core.Bool.{true}
+use mathlib.Core.Bool.{true, false}
 use mathlib.Core.List.{List}
 use Prim.Native.Nat.{ℕ, _+_}
+use Rattle.rules.specs.declared.Desk.{Desk}
 use Rattle.rules.specs.Fresh.{freshDesk}
+use Rattle.rules.specs.Outcome.{isAccepted}
 use Rattle.rules.specs.Sound.{sound}
 use Rattle.rules.specs.Calls.{Call, rule, step, run}
 use Rattle.rules.specs.Serial.{Demand3}
@@ -12,6 +14,11 @@ use Rattle.rules.specs.Coins.{liveBalances, coinsIn, coinsPaid, coinsBac
 use Rattle.rules.specs.Laws.Demand3
 use Rattle.rules.specs.Laws.Reached
 use Rattle.rules.specs.Laws.CoinLaws
+use Rattle.rules.specs.Laws.RefusalLaws
+
+-- "A refusal gives its number, value 0, and the desk is as before, session included.": of every call on every desk
+pub refused-unchanged : (c : Call) (d : Desk) → isAccepted (step c d .answer) ≡ false → step c d .desk ≡ d
+refused-unchanged = RefusalLaws.refused-kept
 
 -- "One after another." For every list of calls, the second list, made from the calls and their answers alone, gives every kept call the same
 -- answer and ends with the same tables: the claim is `Demand3` in Serial.antt
