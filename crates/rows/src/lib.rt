@@ -1,9 +1,14 @@
 // Rows of the tables: finding them by number, path or name, finding a free one, and the tests on one row that the calls
 // share. Every function here answers for every input.
+mod any;
 mod find;
 mod scope;
 mod texts;
 
+pub use any::any_relay;
+pub use any::any_token;
+pub use any::any_volume;
+pub use any::is_given;
 pub use find::find_relay;
 pub use find::find_token;
 pub use find::find_volume;
@@ -16,6 +21,7 @@ pub use scope::cap_fits;
 pub use scope::in_window;
 pub use scope::is_active;
 pub use scope::is_open;
+pub use scope::shards_fit;
 pub use texts::find_entry;
 pub use texts::find_put;
 pub use texts::has_name;

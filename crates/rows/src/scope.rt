@@ -1,6 +1,7 @@
-// Tests on a scope, a cap, a mode and a status.
+// Tests on a scope, a cap, a mode, a status, and K and M.
 ghost use mathlib.Core.Path.{_≡_};
 ghost use Rattle.rules.specs.Scope.{inWindow, canRead, canWrite, capFits};
+ghost use Rattle.rules.specs.Sound.{shardsFit};
 ghost use Rattle.rules.specs.VolumeCalls.{isActive, isOpen};
 use amount::Cap;
 use rules::Mode;
@@ -66,4 +67,20 @@ pub fn is_open(s: Status) -> bool
         Status::Grace => true,
         Status::Deleted => false,
     }
+}
+
+// K from 2 to 16, M from 1 to 8.
+pub fn shards_fit(k: u8, m: u8) -> bool
+    ensures { λ r. ⌜ r ≡ shardsFit k m ⌝ }
+{
+    if k < 2 {
+        return false;
+    }
+    if 16 < k {
+        return false;
+    }
+    if m < 1 {
+        return false;
+    }
+    m <= 8
 }

@@ -1,0 +1,65 @@
+// Whether a number is that of some row from an index on.
+ghost use mathlib.Core.Path.{_≡_};
+ghost use lib.ListN.{drop};
+ghost use Rattle.lists.specs.Lists.{anyOf};
+ghost use Rattle.rules.specs.Tables.{isVolume, isToken, isRelay};
+ghost use Rattle.rules.specs.Sound.{isGiven};
+use super::find::is_number;
+use rules::Relay;
+use rules::RelayNo;
+use rules::Token;
+use rules::TokenNo;
+use rules::Volume;
+use rules::VolumeNo;
+
+pub fn any_volume(rows: [Volume; 8], n: VolumeNo, start: usize) -> bool
+    ensures { λ r. ⌜ r ≡ anyOf (isVolume n) (drop start rows) ⌝ }
+{
+    let mut i = start;
+    while i < 8 {
+        let v = rows[i];
+        if is_number(n.0, v.no.0) {
+            return true;
+        }
+        i += 1;
+    }
+    false
+}
+
+pub fn any_token(rows: [Token; 32], n: TokenNo, start: usize) -> bool
+    ensures { λ r. ⌜ r ≡ anyOf (isToken n) (drop start rows) ⌝ }
+{
+    let mut i = start;
+    while i < 32 {
+        let k = rows[i];
+        if is_number(n.0, k.no.0) {
+            return true;
+        }
+        i += 1;
+    }
+    false
+}
+
+pub fn any_relay(rows: [Relay; 32], n: RelayNo, start: usize) -> bool
+    ensures { λ r. ⌜ r ≡ anyOf (isRelay n) (drop start rows) ⌝ }
+{
+    let mut i = start;
+    while i < 32 {
+        let x = rows[i];
+        if is_number(n.0, x.no.0) {
+            return true;
+        }
+        i += 1;
+    }
+    false
+}
+
+// Whether n was given, where numbers are given from 1 up to the last one.
+pub fn is_given(last: u32, n: u32) -> bool
+    ensures { λ r. ⌜ r ≡ isGiven last n ⌝ }
+{
+    if n < 1 {
+        return false;
+    }
+    n <= last
+}
