@@ -10,6 +10,7 @@ pub mod desk;
 pub mod journal;
 pub mod random;
 pub mod second_list;
+pub mod survey;
 
 /// Refusal numbers.
 pub mod refusal {

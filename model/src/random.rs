@@ -353,7 +353,7 @@ impl Maker {
     }
 
     fn act(&mut self) {
-        match self.r.below(130) {
+        match self.r.below(134) {
             0..=9 => self.step(),
             10..=16 => self.keep_alive(),
             17..=19 => self.jump(),
@@ -381,7 +381,8 @@ impl Maker {
             124..=125 => self.overtaken_session(),
             126 => self.clear_slots(),
             127..=128 => self.life_of_relay(),
-            _ => self.lose_volume(),
+            129 => self.lose_volume(),
+            _ => self.poor_volume(),
         }
     }
 
@@ -539,8 +540,8 @@ impl Maker {
         }
         match self.r.below(12) {
             0..=5 => Cap::Unlimited,
-            6 => Cap::Bytes(0),
-            7 => Cap::Bytes(1_000),
+            6 => Cap::Bytes(*self.r.pick(&[0, 1, 1_000, 1_000])),
+            7 => Cap::Bytes(MOST_SIZE - 1),
             8 => Cap::Bytes(self.r.between(1, 5_000)),
             9 => Cap::Bytes(self.r.between(1, 1 << 22)),
             10 => Cap::Bytes(MOST_SIZE),
@@ -839,8 +840,17 @@ impl Maker {
     // Several calls with one aim.
 
     fn whole_session(&mut self) {
+        if self.r.chance(20) {
+            self.refill();
+        }
+        if self.r.chance(10) {
+            self.keep_alive();
+        }
         let (slot, token) = (self.idle_slot(), self.writer());
-        self.push(Call::Open { slot, token });
+        let answer = self.ask(Call::Open { slot, token });
+        if answer.is_err() && self.r.chance(80) {
+            return;
+        }
         for _ in 0..self.r.below(6) {
             self.stage_at(slot);
             if self.r.chance(10) {
@@ -916,7 +926,9 @@ impl Maker {
     fn fill_entries(&mut self) {
         for _ in 0..self.r.between(1, 9) {
             let (slot, token) = (self.idle_slot(), self.writer());
-            self.push(Call::Open { slot, token });
+            if self.ask(Call::Open { slot, token }).is_err() {
+                return self.clear_slots();
+            }
             let mut prefix = self.prefix_of_slot(slot);
             prefix.extend(format!("f{}-", self.r.below(9)).bytes());
             for i in 0..self.r.between(7, 9) {
@@ -996,6 +1008,55 @@ impl Maker {
         }
         let relay = value(&answer) as u32;
         self.push(Call::Heartbeat { relay });
+    }
+
+    /// A volume with coins for few epochs, which is short, recovers or is collected.
+    fn poor_volume(&mut self) {
+        self.refill();
+        let (account, coins) = (self.account(), self.r.between(1, 8));
+        let name = format!("poor{}", self.r.below(4)).into_bytes();
+        let answer = self.ask(Call::Create { account, name, k: 2, m: 1, cap: Cap::Unlimited });
+        let volume = value(&answer) as u32;
+        self.push(Call::Deposit { volume, coins });
+        let scope =
+            Scope { prefix: vec![], mode: 2, cap: Cap::Unlimited, from: 0, until: u64::MAX };
+        let answer = self.ask(Call::Grant { account, volume, scope });
+        let (slot, token) = (self.idle_slot(), value(&answer) as u32);
+        self.push(Call::Open { slot, token });
+        for _ in 0..self.r.between(1, 3) {
+            let (path, size, hash) = (self.good_path(), self.r.between(1, 20_000), self.hash());
+            self.push(Call::Stage { slot, path, size, hash });
+        }
+        self.end_session(slot);
+        for _ in 0..self.r.between(2, 8) {
+            self.poor_epoch(volume, token);
+        }
+    }
+
+    /// One epoch of a poor volume, with a session open across its end.
+    fn poor_epoch(&mut self, volume: u32, token: u32) {
+        let end = (self.desk.tables.clock / EPOCH + 1) * EPOCH;
+        let account = self.owner(volume);
+        if self.r.chance(40) {
+            let block = (end - self.r.between(1, 60)).max(self.desk.tables.clock);
+            self.push(Call::Advance { block });
+            self.refill();
+        }
+        let slot = self.idle_slot();
+        self.push(Call::Open { slot, token });
+        self.stage_at(slot);
+        self.push(Call::Advance { block: end });
+        self.end_session(slot);
+        match self.r.below(10) {
+            0..=1 => {
+                let coins = self.r.between(0, 4);
+                self.push(Call::Deposit { volume, coins });
+            }
+            2 => self.push(Call::Delete { account, volume }),
+            3 => self.push(Call::Undelete { account, volume }),
+            4 => self.remove(),
+            _ => {}
+        }
     }
 
     /// Deletes a volume, looks, and brings it back or lets it be collected.
