@@ -261,6 +261,16 @@ impl Tables {
         self.volumes.iter_mut().flatten().find(|v| v.number == number)
     }
 
+    /// For tests that set a desk no short list of calls reaches.
+    pub fn volume_mut_for_test(&mut self, number: u32) -> &mut Volume {
+        self.volume_mut(number).unwrap()
+    }
+
+    /// For tests that set a desk no short list of calls reaches.
+    pub fn token_mut_for_test(&mut self, number: u32) -> &mut Token {
+        self.token_mut(number).unwrap()
+    }
+
     pub fn token(&self, number: u32) -> Option<&Token> {
         self.tokens.iter().flatten().find(|t| t.number == number)
     }

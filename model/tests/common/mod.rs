@@ -4,7 +4,7 @@
 use model::amount::Cap;
 use model::call::{number, value, Bytes32, Call, Scope};
 use model::check::sound;
-use model::desk::{Desk, RATE};
+use model::desk::{Desk, Status, RATE};
 
 pub const ANN: Bytes32 = [1; 32];
 pub const BOB: Bytes32 = [2; 32];
@@ -144,6 +144,12 @@ impl Case {
             self.accepts(abandon(0));
         }
         number
+    }
+
+    /// Sets a volume as after one epoch end not paid.
+    pub fn enter_grace(&mut self, volume: u32) {
+        let volume = self.0.tables.volume_mut_for_test(volume);
+        (volume.status, volume.grace) = (Status::Grace, 1);
     }
 
     /// Heartbeats of all relays in the table.
