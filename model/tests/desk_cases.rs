@@ -102,6 +102,10 @@ fn collected_after_7200_blocks() {
 fn clock() {
     let mut case = Case::fresh();
     case.refuses(advance(7_200), 16);
+    assert_eq!(Case::fresh().ask(advance(7_199)), (0, 7_199));
+    // Few blocks, but two epoch ends.
+    case.gives(advance(3_599), 3_599);
+    case.refuses(advance(7_200), 16);
     case.gives(advance(7_199), 7_199);
     case.refuses(advance(7_198), 16);
     case.gives(advance(7_199), 7_199);

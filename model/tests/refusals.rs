@@ -245,6 +245,7 @@ fn stage_in_order() {
     case.gives(stage(0, "job/3", 77), 0);
     let session = case.0.sessions[0].clone().unwrap();
     assert_eq!((session.puts.len(), session.puts[3].size), (8, 77));
+    assert_eq!(session.puts[3].hash, [77; 32]);
     // No window, status or version is tested.
     case.accepts(advance(6));
     case.gives(stage(0, "job/3", MOST), 0);
