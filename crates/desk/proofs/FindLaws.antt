@@ -1,8 +1,9 @@
 -- What a search's answer says of the row that it found: f is the answer, and the first premise is what the search ensures.
-use mathlib.Core.Path.{_≡_, sym, _∙_}
+use mathlib.Core.Path.{_≡_, refl, sym, _∙_}
 use mathlib.Core.Bool.{Bool}
-use mathlib.Core.List.{List}
-use Prim.Native.Nat.{ℕ, _<_}
+use mathlib.Core.List.{List, [], _∷_}
+use Prim.Native.Nat.{ℕ, zero, suc, _<_}
+use native.Mathlib.Nat.{not-suc-le-zero, le-of-suc-le-suc}
 use native.Mathlib.Omega.{arith}
 use lib.ListN.{length, getD}
 use Rattle.lists.specs.declared.Found.{Found}
@@ -21,3 +22,9 @@ module _ {A : Type 0} (p : A → Bool) (l : List A) {f : Found} (e : f ≡ first
 
   pub found-none : f ≡ Nothing → firstRow p 0 l ≡ miss
   found-none w = first-miss p l (sym e ∙ w)
+
+-- a row of the table is the same, whatever would stand for a row past its end
+pub same-row : {A : Type 0} (l : List A) (i : ℕ) (a b : A) → i < length l → getD l i a ≡ getD l i b
+same-row [] i a b h = absurd (not-suc-le-zero h)
+same-row (x ∷ xs) zero a b h = refl
+same-row (x ∷ xs) (suc i) a b h = same-row xs i a b (le-of-suc-le-suc h)

@@ -39,11 +39,14 @@ pub(crate) fn refuse(t: Tables, n: u32) -> TablesOutcome
     TablesOutcome { answer, tables: t }
 }
 
-pub(crate) fn accept(v: u64, t: Tables) -> TablesOutcome
-    ensures { λ r. ⌜ r ≡ accepted v t ⌝ }
+pub(crate) fn accept(v: u64, next: Tables) -> TablesOutcome
+    ensures { λ r. ⌜ r ≡ accepted v next ⌝ }
 {
     let answer = success(v);
-    TablesOutcome { answer, tables: t }
+    TablesOutcome {
+        answer,
+        tables: next,
+    }
 }
 
 // Of a call on the tables and one slot.

@@ -5,7 +5,6 @@ ghost use Prim.Native.Nat.{_<_};
 ghost use lib.ListN.{take};
 ghost use Rattle.lists.specs.Lists.{hit};
 ghost use Rattle.text.specs.Text.{nameLimit, pathLimit};
-ghost use Rattle.rules.specs.Sound.{shardsFit};
 ghost use Rattle.rules.specs.VolumeCalls.{newVolume, createIn, createRule};
 use super::answers::accept;
 use super::answers::refuse;
@@ -14,6 +13,7 @@ use lists::Found;
 use rows::cap_fits;
 use rows::free_volume;
 use rows::name_taken;
+use rows::shards_fit;
 use rules::Account;
 use rules::Status;
 use rules::Tables;
@@ -25,22 +25,6 @@ use rules::numbers::NAME_TAKEN;
 use rules::numbers::ROOM;
 use rules::numbers::SPENT;
 use text::name::is_name;
-
-// K from 2 to 16, M from 1 to 8.
-pub(crate) fn shards_fit(k: u8, m: u8) -> bool
-    ensures { λ r. ⌜ r ≡ shardsFit k m ⌝ }
-{
-    if k < 2 {
-        return false;
-    }
-    if 16 < k {
-        return false;
-    }
-    if m < 1 {
-        return false;
-    }
-    m <= 8
-}
 
 fn make_volume(n: u32, a: Account, name: &[u8], k: u8, m: u8, cap: Cap) -> Volume
     ensures { λ r. ⌜ r ≡ newVolume n a (take pathLimit (now (name .entry))) k m cap ⌝ }

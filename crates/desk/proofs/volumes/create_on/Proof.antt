@@ -20,7 +20,6 @@ use Rattle.desk.proofs.volumes.create_on.Reads as reads
 use Rattle.desk.proofs.volumes.create_on.Lts as lts
 use Rattle.desk.proofs.answers.refuse.Reads as refuse-reads
 use Rattle.desk.proofs.volumes.make_volume.Reads as make-volume-reads
-use Rattle.desk.proofs.volumes.shards_fit.Reads as shards-fit-reads
 use Rattle.desk.proofs.volumes.store_volume.Reads as store-volume-reads
 use Rattle.rows.proofs.free_volume.Reads as free-volume-reads
 use Rattle.rows.proofs.cap_fits.Reads as cap-fits-reads
