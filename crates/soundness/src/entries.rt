@@ -1,0 +1,114 @@
+// The entry table, row by row and against itself.
+ghost use mathlib.Core.Path.{_≡_};
+ghost use lib.ListN.{drop};
+ghost use Rattle.lists.specs.Lists.{allOf, anyOf, noClash, find};
+ghost use Rattle.rules.specs.declared.Tables.{Tables};
+ghost use Rattle.rules.specs.Tables.{isVolume};
+ghost use Rattle.rules.specs.Sound.{soundIn, soundEntry, soundEntries, sameEntry};
+use super::placements::sound_placement;
+use lists::Found;
+use rows::find_volume;
+use rows::is_number;
+use rules::Entry;
+use rules::Placement;
+use rules::Tables;
+use rules::Volume;
+use rules::VolumeNo;
+use text::path::holds_path;
+use text::same_texts;
+
+// The volume is in the table, and the placement is of its K and M.
+fn sound_in(volumes: [Volume; 8], n: VolumeNo, p: Placement, last: u32) -> bool
+    ensures { λ r. ⌜ ((t : Tables) → t .«last_relay» ≡ last → r ≡ soundIn t p (find (isVolume n) volumes)) ⌝ }
+{
+    let Found::At(i) = find_volume(volumes, n) else {
+        return false;
+    };
+    let v = volumes[i];
+    sound_placement(v, p, last)
+}
+
+fn sound_entry(e: Entry, volumes: [Volume; 8], last: u32) -> bool
+    ensures { λ r. ⌜ ((t : Tables) → t .volumes ≡ volumes → t .«last_relay» ≡ last → r ≡ soundEntry t e) ⌝ }
+{
+    let n = e.volume;
+    if n.0 == 0 {
+        return true;
+    }
+    let path = e.path;
+    if !holds_path(path) {
+        return false;
+    }
+    if 68719476736 < e.size {
+        return false;
+    }
+    let p = e.placement;
+    sound_in(volumes, n, p, last)
+}
+
+fn all_entries(t: Tables) -> bool
+    ensures { λ r. ⌜ r ≡ allOf (soundEntry t) (t .entries) ⌝ }
+{
+    let rows = t.entries;
+    let volumes = t.volumes;
+    let mut i: usize = 0;
+    while i < 64 {
+        let e = rows[i];
+        if !sound_entry(e, volumes, t.last_relay) {
+            return false;
+        }
+        i += 1;
+    }
+    true
+}
+
+fn same_entry(a: Entry, b: Entry) -> bool
+    ensures { λ r. ⌜ r ≡ sameEntry a b ⌝ }
+{
+    if !is_number(a.volume.0, b.volume.0) {
+        return false;
+    }
+    let x = a.path;
+    let y = b.path;
+    same_texts(x, y)
+}
+
+// Whether a row from an index on has the same volume and path.
+fn path_again(rows: [Entry; 64], a: Entry, start: usize) -> bool
+    ensures { λ r. ⌜ r ≡ anyOf (sameEntry a) (drop start rows) ⌝ }
+{
+    let mut i = start;
+    while i < 64 {
+        let b = rows[i];
+        if same_entry(a, b) {
+            return true;
+        }
+        i += 1;
+    }
+    false
+}
+
+// No volume's path is held twice.
+fn paths_differ(rows: [Entry; 64]) -> bool
+    ensures { λ r. ⌜ r ≡ noClash sameEntry rows ⌝ }
+{
+    let mut i: usize = 0;
+    while i < 64 {
+        let e = rows[i];
+        if path_again(rows, e, i + 1) {
+            return false;
+        }
+        i += 1;
+    }
+    true
+}
+
+pub(crate) fn sound_entries(t: Tables) -> bool
+    ensures { λ r. ⌜ r ≡ soundEntries t ⌝ }
+{
+    if !all_entries(t) {
+        return false;
+    }
+    let rows = t.entries;
+    paths_differ(rows)
+}

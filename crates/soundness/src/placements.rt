@@ -1,0 +1,80 @@
+// An entry's placement: its relays' numbers were given, and no two are the same.
+ghost use mathlib.Core.Path.{_≡_};
+ghost use Prim.Native.Nat.{min};
+ghost use lib.ListN.{drop, take};
+ghost use Rattle.lists.specs.Lists.{allOf, anyOf, noClash};
+ghost use Rattle.rules.specs.declared.Tables.{Tables};
+ghost use Rattle.rules.specs.Relays.{sameRelay};
+ghost use Rattle.rules.specs.Sound.{relayGiven, soundPlacement};
+use rows::is_given;
+use rules::Placement;
+use rules::RelayNo;
+use rules::Volume;
+
+pub(crate) fn least(a: usize, b: usize) -> usize
+    ensures { λ r. ⌜ r ≡ min a b ⌝ }
+{
+    if a < b { a } else { b }
+}
+
+// Of the first `len` places.
+fn relays_given(relays: [RelayNo; 24], len: usize, last: u32) -> bool
+    ensures { λ r. ⌜ ((t : Tables) → t .«last_relay» ≡ last → r ≡ allOf (relayGiven t) (take len relays)) ⌝ }
+{
+    let n = least(len, 24);
+    let mut i: usize = 0;
+    while i < n {
+        let x = relays[i];
+        if !is_given(last, x.0) {
+            return false;
+        }
+        i += 1;
+    }
+    true
+}
+
+// Whether a place from an index on is of this relay.
+pub(crate) fn relay_again(relays: [RelayNo; 24], len: usize, x: RelayNo, start: usize) -> bool
+    ensures { λ r. ⌜ r ≡ anyOf (sameRelay x) (drop start (take len relays)) ⌝ }
+{
+    let n = least(len, 24);
+    let mut i = start;
+    while i < n {
+        let y = relays[i];
+        if y.0 == x.0 {
+            return true;
+        }
+        i += 1;
+    }
+    false
+}
+
+fn relays_differ(relays: [RelayNo; 24], len: usize) -> bool
+    ensures { λ r. ⌜ r ≡ noClash sameRelay (take len relays) ⌝ }
+{
+    let n = least(len, 24);
+    let mut i: usize = 0;
+    while i < n {
+        let x = relays[i];
+        if relay_again(relays, len, x, i + 1) {
+            return false;
+        }
+        i += 1;
+    }
+    true
+}
+
+// K+M different relays.
+pub(crate) fn sound_placement(v: Volume, p: Placement, last: u32) -> bool
+    ensures { λ r. ⌜ ((t : Tables) → t .«last_relay» ≡ last → r ≡ soundPlacement t v p) ⌝ }
+{
+    let len = p.len;
+    if len != (v.k as usize) + (v.m as usize) {
+        return false;
+    }
+    let relays = p.relays;
+    if !relays_given(relays, len, last) {
+        return false;
+    }
+    relays_differ(relays, len)
+}

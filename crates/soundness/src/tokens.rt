@@ -1,0 +1,122 @@
+// The token table, row by row and against itself.
+ghost use mathlib.Core.Path.{_≡_};
+ghost use Rattle.lists.specs.Lists.{allOf, noClash};
+ghost use Rattle.rules.specs.declared.Tables.{Tables};
+ghost use Rattle.rules.specs.Scope.{depth};
+ghost use Rattle.rules.specs.Sound.{parentThere, soundToken, soundTokens, sameToken};
+use lists::Found;
+use rows::any_token;
+use rows::any_volume;
+use rows::cap_fits;
+use rows::find_token;
+use rows::is_given;
+use rules::Tables;
+use rules::Token;
+use rules::TokenNo;
+use rules::Volume;
+use text::path::holds_prefix;
+
+// How many tokens the chain of parents has, the token among them: 9 stands for any number above 8 and for a ring.
+fn depth_of(rows: [Token; 32], k: Token) -> usize
+    ensures { λ r. ⌜ r ≡ depth rows k ⌝ }
+{
+    let mut n: usize = 1;
+    let mut parent = k.parent.0;
+    while n < 9 {
+        let Found::At(i) = find_token(rows, TokenNo(parent)) else {
+            return n;
+        };
+        let x = rows[i];
+        parent = x.parent.0;
+        n += 1;
+    }
+    n
+}
+
+// The token is a root, or its parent is in the table.
+fn parent_there(rows: [Token; 32], k: Token) -> bool
+    ensures { λ r. ⌜ ((t : Tables) → t .tokens ≡ rows → r ≡ parentThere t k) ⌝ }
+{
+    let n = k.parent;
+    if n.0 == 0 {
+        return true;
+    }
+    any_token(rows, n, 0)
+}
+
+fn sound_token(k: Token, volumes: [Volume; 8], rows: [Token; 32], last: u32) -> bool
+    ensures { λ r. ⌜ ((t : Tables) → t .volumes ≡ volumes → t .tokens ≡ rows → t .«last_token» ≡ last → r ≡ soundToken t k) ⌝ }
+{
+    if k.no.0 == 0 {
+        return true;
+    }
+    if !is_given(last, k.no.0) {
+        return false;
+    }
+    let scope = k.scope;
+    let prefix = scope.prefix;
+    if !holds_prefix(prefix) {
+        return false;
+    }
+    let cap = scope.cap;
+    if !cap_fits(cap) {
+        return false;
+    }
+    if scope.until < scope.from {
+        return false;
+    }
+    let volume = k.volume;
+    if !any_volume(volumes, volume, 0) {
+        return false;
+    }
+    if !parent_there(rows, k) {
+        return false;
+    }
+    let depth = depth_of(rows, k);
+    if 8 < depth {
+        return false;
+    }
+    k.used <= 1152921504606846976
+}
+
+fn all_tokens(t: Tables) -> bool
+    ensures { λ r. ⌜ r ≡ allOf (soundToken t) (t .tokens) ⌝ }
+{
+    let rows = t.tokens;
+    let volumes = t.volumes;
+    let mut i: usize = 0;
+    while i < 32 {
+        let k = rows[i];
+        if !sound_token(k, volumes, rows, t.last_token) {
+            return false;
+        }
+        i += 1;
+    }
+    true
+}
+
+// No number is held twice.
+fn numbers_differ(rows: [Token; 32]) -> bool
+    ensures { λ r. ⌜ r ≡ noClash sameToken rows ⌝ }
+{
+    let mut i: usize = 0;
+    while i < 32 {
+        let k = rows[i];
+        let n = k.no;
+        if any_token(rows, n, i + 1) {
+            return false;
+        }
+        i += 1;
+    }
+    true
+}
+
+pub(crate) fn sound_tokens(t: Tables) -> bool
+    ensures { λ r. ⌜ r ≡ soundTokens t ⌝ }
+{
+    if !all_tokens(t) {
+        return false;
+    }
+    let rows = t.tokens;
+    numbers_differ(rows)
+}
