@@ -1,6 +1,6 @@
 use borrow.Author.Tests.{le-leb, lt-leb}
-use Rattle.soundness.proofs.sound_counts.Statement.{statement}
-use Rattle.soundness.proofs.sound_counts.Tie as tie
+use Rattle.soundness.proofs.tables.sound_counts.Statement.{statement}
+use Rattle.soundness.proofs.tables.sound_counts.Tie as tie
 
 returns : tie.Need-returns
 returns c = rw (lt-leb _ _ (c .if1 .taken))

@@ -2,8 +2,8 @@ use borrow.Author.Needs.{needs}
 use borrow.Author.Tests.{not-true, not-false}
 use mathlib.Core.Path.{sym, _∙_}
 use Rattle.rules.specs.Sound.{soundTables}
-use Rattle.soundness.proofs.sound_tables.Statement.{statement}
-use Rattle.soundness.proofs.sound_tables.Tie as tie
+use Rattle.soundness.proofs.tables.sound_tables.Statement.{statement}
+use Rattle.soundness.proofs.tables.sound_tables.Tie as tie
 
 sound-counts-requires : tie.Need-sound-counts-requires
 sound-counts-requires c κs = search needs

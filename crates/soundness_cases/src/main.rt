@@ -1,0 +1,19 @@
+// A full desk that is sound, and the same desk with one part of the test broken at a time.
+mod cases;
+mod full;
+
+fn main() {
+    let d = full::desk();
+    cases::show(b"the full desk", d);
+    cases::counts(d);
+    cases::volumes(d);
+    cases::statuses(d);
+    cases::names(d);
+    cases::entries(d);
+    cases::placements(d);
+    cases::tokens(d);
+    cases::chains(d);
+    cases::relays(d);
+    cases::sessions(d);
+    cases::free_rows(1);
+}
