@@ -6,7 +6,7 @@ use mathlib.Core.List.{List, [], _∷_}
 use Prim.Native.Nat.{ℕ, _+_}
 use native.Mathlib.Omega.{arith}
 use lib.Dec.{eqb, leb}
-use lib.ListN.{getD, set}
+use lib.ListN.{set}
 use Rattle.lists.specs.Lists.{Hit, miss, hit, find, keep, sumOf}
 use Rattle.lists.specs.SearchLaws.{row-passes}
 use Rattle.rules.specs.declared.VolumeNo.{VolumeNo}
@@ -17,13 +17,13 @@ use Rattle.rules.specs.declared.Tables.{Tables}
 use Rattle.rules.specs.declared.Desk.{Desk}
 use Rattle.rules.specs.Limits.{slotRows}
 use Rattle.rules.specs.Numbers.{BAD, CLOCK, NO-VOLUME, STATE, TOO-MUCH}
-use Rattle.rules.specs.Fresh.{freshSession, freshDesk}
+use Rattle.rules.specs.Fresh.{freshDesk}
 use Rattle.rules.specs.Tables.{usedVolume, isVolume, volumeOf, withVolumes, withDeposits, withBalance}
 use Rattle.rules.specs.Outcome.{refusal, isAccepted, refused, accepted, deskRefused}
 use Rattle.rules.specs.VolumeCalls.{isOpen, tooMuch, depositIn, depositRule}
 use Rattle.rules.specs.Advance.{advanced, badBlock, advanceRule}
 use Rattle.rules.specs.Sound.{sound}
-use Rattle.rules.specs.Calls.{Ask, advance, create, deposit, delete, undelete, grant, attenuate, revoke, remove, look, register, heartbeat, askRule, Work, opens, stages, commits, abandons, workRule, Call, ask, onSlot, withSlot, rule, step, run}
+use Rattle.rules.specs.Calls.{Ask, advance, create, deposit, delete, undelete, grant, attenuate, revoke, remove, look, register, heartbeat, askRule, Work, opens, stages, commits, abandons, workRule, Call, ask, onSlot, rule, step, run}
 use Rattle.rules.specs.Coins.{liveBalances, Move, deposits, advances, neither, askMove, moveOf, coinsIn, coinsPaid, coinsBack, summed}
 use Rattle.rules.specs.Laws.BranchLaws.{cond-case}
 use Rattle.rules.specs.Laws.NumberLaws.{numbered-used}
@@ -113,10 +113,9 @@ rule-books : (c : Call) (d : Desk) → Books (moveOf c) (d .tables) (rule c d .a
 unfolding rule
 rule-books (ask a) d = ask-books a (d .tables)
 rule-books (onSlot slot w) d =
-    let o = workRule w (d .tables) (getD (d .sessions) slot freshSession) in
-    cond-case (λ o. Books neither (d .tables) (o .answer) (o .desk .tables)) (leb slotRows slot) (deskRefused d BAD) (withSlot d slot o)
+    cond-case (λ o. Books neither (d .tables) (o .answer) (o .desk .tables)) (leb slotRows slot) (deskRefused d BAD) _
     (λ e. refused-books neither (d .tables) BAD refl)
-    (λ e. unmoved-books (d .tables) (o .tables) (o .answer) (work-coins w (d .tables) (getD (d .sessions) slot freshSession)))
+    (λ e. unmoved-books (d .tables) _ _ (work-coins w (d .tables) _))
 
 step-books : (c : Call) (d : Desk) → Books (moveOf c) (d .tables) (step c d .answer) (step c d .desk .tables)
 unfolding step

@@ -2,11 +2,12 @@
 use mathlib.Core.Path.{_≡_, refl, sym, _∙_}
 use mathlib.Core.Bool.{Bool, true, false, cond, not, _&&_, false≢true}
 use mathlib.Core.List.{List}
+use mathlib.Core.Logic.{⊎-elim}
 use Prim.Native.Nat.{ℕ}
 use borrow.Author.Tests.{not-false, eqb-true}
 use lib.Dec.{eqb, leb}
 use Rattle.lists.specs.Lists.{Hit, miss, hit, find}
-use Rattle.lists.specs.BoolLaws.{not-both}
+use Rattle.lists.specs.BoolLaws.{not-both, pass-or-fail}
 use Rattle.text.specs.Text.{isPath, covers, textBytes}
 use Rattle.rules.specs.declared.TokenNo.{TokenNo}
 use Rattle.rules.specs.declared.Hash.{Hash}
@@ -124,15 +125,15 @@ pub stage-so : (path : List ℕ) (size : ℕ) (x : Hash) (t : Tables) (s : Sessi
 unfolding stageRule stageToken
 stage-so path size x t s o = rw (o .good, o .running, o .tokenFound, o .covered)
 
-room-same : (t t′ : Tables) (s : Session) (b : Bool) (n : ℕ) (s′ : Session) → let o = cond b (slotRefused t s n) (slotAccepted 0 t s′) in let o′ = cond b (slotRefused t′ s n) (slotAccepted 0 t′ s′) in
+room-same : (t t′ u u′ : Tables) (s : Session) (b : Bool) (n : ℕ) (s′ : Session) → let o = cond b (slotRefused t s n) (slotAccepted 0 u s′) in let o′ = cond b (slotRefused t′ s n) (slotAccepted 0 u′ s′) in
     (o′ .answer ≡ o .answer) × (o′ .session ≡ o .session)
-room-same t t′ s true n s′ = (refl, refl)
-room-same t t′ s false n s′ = (refl, refl)
+room-same t t′ u u′ s true n s′ = (refl, refl)
+room-same t t′ u u′ s false n s′ = (refl, refl)
 
 pub stage-put-same : (t t′ : Tables) (s : Session) (p : Put) (h : Hit Put) → (stagePut t′ s p h .answer ≡ stagePut t s p h .answer) × (stagePut t′ s p h .session ≡ stagePut t s p h .session)
 unfolding stagePut
 stage-put-same t t′ s p (hit j old) = (refl, refl)
-stage-put-same t t′ s p miss = room-same t t′ s (leb putRows (s .count)) _ _
+stage-put-same t t′ s p miss = room-same t t′ _ _ s (leb putRows (s .count)) _ _
 
 -- a stage changes nothing of the session but its puts
 record SameSession (s s′ : Session) : Type 0 where
@@ -173,25 +174,32 @@ stage-before path size x t s a t′ ready =
 pub open-before : (n : TokenNo) (t : Tables) (s : Session) → isAccepted (openRule n t s .answer) ≡ true → (t′ : Tables) → Ready t′ s
 open-before n t s a t′ b = absurd (not-both b (open-found n t s a .idle))
 
+-- A commit is refused outside its token's window.
+commit-window : (t : Tables) (s : Session) (i : ℕ) (v : Volume) (j : ℕ) (k : Token) → isAccepted (commitToken t s i v (hit j k) .answer) ≡ true
+    → inWindow (t .clock) (k .scope) ≡ true
+unfolding commitToken
+commit-window t s i v j k a =
+    ⊎-elim (λ w. w) (λ w. absurd (false≢true (rw w at a))) (pass-or-fail (inWindow (t .clock) (k .scope)))
+
 -- An accepted commit found the tables ready.
 commit-token-ready : (t : Tables) (s : Session) (i : ℕ) (v : Volume) (h : Hit Token) → volumeOf (s .volume) t ≡ hit i v → tokenOf (s .token) t ≡ h
     → isAccepted (commitToken t s i v h .answer) ≡ true → ReadyFor t s
 unfolding commitToken
 commit-token-ready t s i v miss f g a = absurd (false≢true a)
 commit-token-ready t s i v (hit j k) f g a =
-    let p = passed t s (not (inWindow (t .clock) (k .scope))) _ _ refl a in
-    let q = passed t s (not (isActive (v .status))) _ _ refl (p .1) in
-    let r = passed t s (not (eqb (v .version) (s .version))) _ _ refl (q .1) in
+    let w = commit-window t s i v j k a in
+    let q = passed t s _ _ _ refl (rw w at a) in
+    let r = passed t s _ _ _ refl (q .1) in
     record {
       volumeRow = i;
       volume = v;
       volumeFound = f;
-      active = not-false (isActive (v .status)) (q .0);
-      version = eqb-true (v .version) (s .version) (not-false (eqb (v .version) (s .version)) (r .0));
+      active = not-false _ (q .0);
+      version = eqb-true (v .version) (s .version) (not-false _ (r .0));
       tokenRow = j;
       token = k;
       tokenFound = g;
-      window = not-false (inWindow (t .clock) (k .scope)) (p .0);
+      window = w;
     }
 
 commit-volume-ready : (t : Tables) (s : Session) (h : Hit Volume) → volumeOf (s .volume) t ≡ h → isAccepted (commitVolume t s h .answer) ≡ true → ReadyFor t s

@@ -112,13 +112,11 @@ relay-le t r h =
     (pass-or-fail (usedRelay r))
 
 module _ (t : Tables) (inv : Whole t) where
-  -- a new relay, in the place of any row
-  module _ (capacity : ℕ) (fits : capacity ≤ capacityLimit) (room : t .«last_relay» < lastNumber) (i : ℕ) where
+  -- a new relay, of the next number and with nothing used, in the place of any row
+  module _ (room : t .«last_relay» < lastNumber) (i : ℕ) (r : Relay) (numbers : r .no .0 ≡ t .«last_relay» + 1)
+      (fits : r .capacity ≤ capacityLimit) (unused : r .used ≡ 0) (unheld : r .held ≡ 0) (now : r .beat ≡ t .clock) where
     abbrev n : ℕ
     n = t .«last_relay» + 1
-
-    abbrev r : Relay
-    r = newRelay n capacity (t .clock)
 
     -- the number is given first
     abbrev u : Tables
@@ -136,12 +134,12 @@ module _ (t : Tables) (inv : Whole t) where
         let e = inv .parts .entries in
         facts-relay u r
         (record {
-          numbered = le-given n n (omega arith) (omega arith);
-          capacity = le-leb capacity capacityLimit fits;
-          fits = le-leb 0 capacity (omega arith);
-          beat = le-leb (t .clock) (t .clock) (omega arith);
-          used = eq-eqb 0 (sumOf (bytesOn (t .volumes) (r .no)) (t .entries)) (sym (no-bytes t (r .no) (omega arith) (t .volumes) e));
-          held = eq-eqb 0 (sumOf (shardsOn (r .no)) (t .entries)) (sym (no-shards t (r .no) (omega arith) e));
+          numbered = le-given n (r .no .0) (omega arith) (omega arith);
+          capacity = le-leb (r .capacity) capacityLimit fits;
+          fits = le-leb (r .used) (r .capacity) (omega arith);
+          beat = le-leb (r .beat) (t .clock) (omega arith);
+          used = eq-eqb (r .used) (sumOf (bytesOn (t .volumes) (r .no)) (t .entries)) (unused ∙ sym (no-bytes t (r .no) (omega arith) (t .volumes) e));
+          held = eq-eqb (r .held) (sumOf (shardsOn (r .no)) (t .entries)) (unheld ∙ sym (no-shards t (r .no) (omega arith) e));
         })
 
     register-new : Keeps t (withRelays u (set (t .relays) i r))
@@ -192,7 +190,8 @@ register-keeps capacity t inv =
     go : ltb capacityLimit capacity ≡ false → leb lastNumber (t .«last_relay») ≡ false → (h : Hit Relay)
         → P (registerIn t (newRelay (t .«last_relay» + 1) capacity (t .clock)) h)
     go b e miss = keeps-self inv
-    go b e (hit i old) = register-new t inv capacity (ltb-false capacityLimit capacity b) (leb-false lastNumber (t .«last_relay») e) i
+    go b e (hit i old) =
+        register-new t inv (leb-false lastNumber (t .«last_relay») e) i _ (omega arith) (ltb-false capacityLimit capacity b) refl refl refl
 
 pub heartbeat-keeps : (n : RelayNo) (t : Tables) → Whole t → Keeps t (heartbeatRule n t .tables)
 unfolding heartbeatRule heartbeatIn

@@ -6,6 +6,7 @@ use mathlib.Core.Path.{_≡_, _∙_}
 use mathlib.Core.Bool.{Bool, true}
 use mathlib.Core.List.{List, [], _∷_}
 use Prim.Native.Nat.{ℕ, _<_}
+use native.Mathlib.Omega.{arith}
 use borrow.Author.Tests.{leb-false, eqb-true, eq-eqb}
 use lib.Dec.{eqb, leb}
 use lib.ListN.{length, getD, length-set}
@@ -125,8 +126,8 @@ module _ (advances : (block : ℕ) (t : Tables) → Invariant t → Follows t (a
   rule-stays (onSlot j w) d i =
       cond-case (λ (o : Outcome). DeskInvariant (o .desk)) (leb slotRows j) (deskRefused d BAD) _ (λ b. i)
       (λ b.
-      slot-changes d i j (workRule w (d .tables) (getD (d .sessions) j freshSession))
-      (work-follows w (d .tables) (tables-of d i) (getD (d .sessions) j freshSession) (slot-of d i j (leb-false slotRows j b))))
+      let h = leb-false slotRows j b in
+      slot-changes d i j _ (work-follows w (d .tables) (tables-of d i) _ (slot-of d i _ (omega arith))))
 
   -- one call
   pub stays : (c : Call) (d : Desk) → DeskInvariant d → DeskInvariant (step c d .desk)

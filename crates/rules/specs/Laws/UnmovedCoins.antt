@@ -220,7 +220,7 @@ open-coins n t s = search (slot-check, unmoved-self, open-token)
 stage-put : (t : Tables) (s : Session) (p : Put) (h : Hit Put) → Unmoved t (stagePut t s p h .tables)
 unfolding stagePut
 stage-put t s p (hit j old) = unmoved-self t
-stage-put t s p miss = search (slot-check, unmoved-self)
+stage-put t s p miss = search (slot-check, unmoved-self, same-volumes)
 
 stage-token : (t : Tables) (s : Session) (path : List ℕ) (size : ℕ) (x : Hash) (h : Hit Token) → Unmoved t (stageToken t s path size x h .tables)
 unfolding stageToken
