@@ -13,7 +13,6 @@ ghost use Rattle.rules.specs.Outcome.{onTables};
 ghost use Rattle.rules.specs.Calls.{Ask, Work, Call, step, withSlot};
 use amount::Cap;
 use answers::refuse_desk;
-use rules::numbers::BAD;
 use rules::Account;
 use rules::Desk;
 use rules::Hash;
@@ -23,6 +22,7 @@ use rules::Session;
 use rules::SlotOutcome;
 use rules::TablesOutcome;
 use rules::TokenNo;
+use rules::numbers::BAD;
 use soundness::is_sound;
 
 // The desk with what a call on its tables left.
