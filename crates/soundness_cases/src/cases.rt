@@ -16,7 +16,7 @@ use rules::VolumeNo;
 use soundness::is_sound;
 use text::Text;
 
-pub fn show(part: &[u8], d: Desk) {
+pub(crate) fn show(part: &[u8], d: Desk) {
     io::write_all(1, part);
     if is_sound(d) {
         io::write_all(1, b": sound\n");
@@ -62,7 +62,7 @@ fn with_session(d: Desk, s: Session) -> Desk {
     next
 }
 
-pub fn counts(d: Desk) {
+pub(crate) fn counts(d: Desk) {
     let mut t = d.tables;
     t.clock = 1099511627777;
     show(b"a clock above 2^40", with_tables(d, t));
@@ -80,7 +80,7 @@ pub fn counts(d: Desk) {
     show(b"a relay number above 65,535", with_tables(d, t));
 }
 
-pub fn volumes(d: Desk) {
+pub(crate) fn volumes(d: Desk) {
     let h = full::name(b'h');
     let v = full::volume(9, h, Cap::Unlimited, Status::Active);
     show(b"a volume number not yet given", with_volume(d, v));
@@ -103,7 +103,7 @@ pub fn volumes(d: Desk) {
     show(b"a balance above 10^15", with_volume(d, v));
 }
 
-pub fn statuses(d: Desk) {
+pub(crate) fn statuses(d: Desk) {
     let h = full::name(b'h');
     let mut v = full::volume(8, h, Cap::Unlimited, Status::Active);
     v.grace = 1;
@@ -121,7 +121,7 @@ pub fn statuses(d: Desk) {
     show(b"a delete after the clock", with_volume(d, v));
 }
 
-pub fn names(d: Desk) {
+pub(crate) fn names(d: Desk) {
     let h = full::name(b'h');
     let a = full::name(b'a');
     let v = full::volume(7, h, Cap::Unlimited, Status::Active);
@@ -135,7 +135,7 @@ pub fn names(d: Desk) {
     show(b"the same name of another owner", with_volume(d, v));
 }
 
-pub fn entries(d: Desk) {
+pub(crate) fn entries(d: Desk) {
     let slash = full::path(b'z', b'/');
     let e = full::entry(1, slash);
     show(b"a path that ends with a slash", with_entry(d, e));
@@ -152,7 +152,7 @@ pub fn entries(d: Desk) {
     show(b"the same path in another volume", with_entry(d, e));
 }
 
-pub fn placements(d: Desk) {
+pub(crate) fn placements(d: Desk) {
     let path = full::path(b'z', b'z');
     let mut p = full::placement();
     p.len = 23;
@@ -174,7 +174,7 @@ pub fn placements(d: Desk) {
     show(b"a placement with one relay twice", with_entry(d, e));
 }
 
-pub fn tokens(d: Desk) {
+pub(crate) fn tokens(d: Desk) {
     let k = full::token(33, 31, Cap::Unlimited);
     show(b"a token number not yet given", with_token(d, k));
     let word = full::name(b'w');
@@ -201,7 +201,7 @@ pub fn tokens(d: Desk) {
     show(b"a token number held twice", with_token(d, k));
 }
 
-pub fn chains(d: Desk) {
+pub(crate) fn chains(d: Desk) {
     let mut t = d.tables;
     t.tokens[24] = full::token(25, 32, Cap::Unlimited);
     show(b"a parent chain in a ring", with_tables(d, t));
@@ -216,7 +216,7 @@ pub fn chains(d: Desk) {
     show(b"the chain of 8 tokens", with_tables(d, t));
 }
 
-pub fn relays(d: Desk) {
+pub(crate) fn relays(d: Desk) {
     let r = full::relay(33, 0);
     show(b"a relay number not yet given", with_relay(d, r));
     let mut r = full::relay(32, 0);
@@ -246,7 +246,7 @@ pub fn relays(d: Desk) {
     show(b"a relay number held twice", with_relay(d, r));
 }
 
-pub fn sessions(d: Desk) {
+pub(crate) fn sessions(d: Desk) {
     let mut s = full::session();
     let no = TokenNo(33);
     s.token = no;
@@ -281,7 +281,7 @@ pub fn sessions(d: Desk) {
 }
 
 // Free rows and an idle slot, whatever else they hold.
-pub fn free_rows(rate: u16) {
+pub(crate) fn free_rows(rate: u16) {
     let fresh = rules::fresh(rate);
     show(b"the fresh desk", fresh);
     let junk = Text {

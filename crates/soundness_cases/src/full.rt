@@ -20,7 +20,7 @@ use rules::VolumeNo;
 use text::Text;
 
 // A path of 128 bytes that ends in these two.
-pub fn path(a: u8, b: u8) -> Text {
+pub(crate) fn path(a: u8, b: u8) -> Text {
     let mut bytes = [b'p'; 128];
     bytes[126] = a;
     bytes[127] = b;
@@ -28,13 +28,13 @@ pub fn path(a: u8, b: u8) -> Text {
 }
 
 // A name of one byte.
-pub fn name(a: u8) -> Text {
+pub(crate) fn name(a: u8) -> Text {
     let mut bytes = [0u8; 128];
     bytes[0] = a;
     Text { bytes, len: 1 }
 }
 
-pub fn volume(n: u32, name: Text, cap: Cap, status: Status) -> Volume {
+pub(crate) fn volume(n: u32, name: Text, cap: Cap, status: Status) -> Volume {
     let bytes = [7u8; 32];
     let owner = Account(bytes);
     Volume {
@@ -70,7 +70,7 @@ fn volumes() -> [Volume; 8] {
 }
 
 // The relays 1 to 24.
-pub fn placement() -> Placement {
+pub(crate) fn placement() -> Placement {
     let none = RelayNo(0);
     let mut relays = [none; 24];
     let mut i: usize = 0;
@@ -83,7 +83,7 @@ pub fn placement() -> Placement {
     Placement { relays, len: 24 }
 }
 
-pub fn entry(n: u32, path: Text) -> Entry {
+pub(crate) fn entry(n: u32, path: Text) -> Entry {
     let hash = rules::fresh_hash();
     let placement = placement();
     Entry {
@@ -113,7 +113,7 @@ fn entries() -> [Entry; 64] {
     rows
 }
 
-pub fn token(n: u32, parent: u32, cap: Cap) -> Token {
+pub(crate) fn token(n: u32, parent: u32, cap: Cap) -> Token {
     let prefix = text::empty_text();
     let scope = Scope {
         prefix,
@@ -149,7 +149,7 @@ fn tokens() -> [Token; 32] {
     rows
 }
 
-pub fn relay(n: u32, shards: u32) -> Relay {
+pub(crate) fn relay(n: u32, shards: u32) -> Relay {
     Relay {
         no: RelayNo(n),
         capacity: 1000,
@@ -177,7 +177,7 @@ fn relays() -> [Relay; 32] {
     rows
 }
 
-pub fn put(path: Text) -> Put {
+pub(crate) fn put(path: Text) -> Put {
     let hash = rules::fresh_hash();
     Put {
         path,
@@ -186,7 +186,7 @@ pub fn put(path: Text) -> Put {
     }
 }
 
-pub fn session() -> Session {
+pub(crate) fn session() -> Session {
     let text = path(b's', b'a');
     let first = put(text);
     let mut puts = [first; 8];
@@ -207,7 +207,7 @@ pub fn session() -> Session {
     }
 }
 
-pub fn desk() -> Desk {
+pub(crate) fn desk() -> Desk {
     let slot = session();
     let tables = Tables {
         clock: 50,

@@ -4,60 +4,44 @@ use Rattle.rows.specs.Blank.{blankSession}
 use Rattle.rules.specs.Calls.{withSlot}
 use Rattle.rules.specs.Fresh.{freshSession}
 use Rattle.lists.specs.RowLaws.{rows-length}
-use lib.ListN.{length, getD}
-use Rattle.rules.specs.Calls.{step, rule, askRule, workRule}
+use lib.ListN.{length}
+use Rattle.rules.specs.Calls.{step, rule, workRule}
 use borrow.Author.Tests.{le-leb, lt-leb, not-true, not-false}
-use mathlib.Core.Path.{_≡_, refl, sym, _∙_, ap}
+use mathlib.Core.Path.{_≡_, _∙_, ap}
 use native.Mathlib.Omega.{arith}
 use borrow.Author.Needs.{needs}
 use Rattle.desk.proofs.abandon.Statement.{statement}
 use Rattle.desk.proofs.abandon.Tie as tie
-use Rattle.desk.proofs.abandon.Reads as reads
-use Rattle.desk.proofs.abandon.Lts as lts
-use Rattle.desk.proofs.answers.refuse_desk.Reads as refuse-desk-reads
-use Rattle.desk.proofs.on_slot.Reads as on-slot-reads
-use Rattle.desk.proofs.sessions.abandon_on.Reads as abandon-on-reads
-use Rattle.soundness.proofs.is_sound.Reads as is-sound-reads
 
--- src/lib.rt:135:9
 is-sound-requires : tie.Need-is-sound-requires
 is-sound-requires c κs = search needs
 
--- src/lib.rt:136:9
 refuse-desk-requires : tie.Need-refuse-desk-requires
 refuse-desk-requires c κs = search needs
 
--- src/lib.rt:136:9
 returns : tie.Need-returns
 unfolding step
 returns c = rw (← c .before .before .is-sound .ensures, not-true (c .before .before .is-sound .result) (c .before .if1 .taken)) (c .refuse-desk .ensures)
 
--- src/lib.rt:139:9
 refuse-desk-requires-2 : tie.Need-refuse-desk-requires-2
 refuse-desk-requires-2 c κs = search needs
 
--- src/lib.rt:139:9
 returns-2 : tie.Need-returns-2
 unfolding step rule
 returns-2 c = rw (← c .before .before .before .is-sound .ensures, not-false (c .before .before .before .is-sound .result) (c .before .before .if1 .left), le-leb _ _ (c .before .if2 .taken)) (c .refuse-desk2 .ensures)
 
--- src/lib.rt:144:13
 mul-s : tie.Need-mul-s
 mul-s c = search needs
 
--- src/lib.rt:144:13
 array-copy-out-s : tie.Need-array-copy-out-s
 array-copy-out-s c = search needs
 
--- src/lib.rt:145:19
 abandon-on-requires : tie.Need-abandon-on-requires
 abandon-on-requires c κs = search needs
 
--- src/lib.rt:145:5
 on-slot-requires : tie.Need-on-slot-requires
 on-slot-requires c κs = search needs
 
--- src/lib.rt:132:1
 returns-3 : tie.Need-returns-3
 unfolding step rule workRule
 returns-3 c =

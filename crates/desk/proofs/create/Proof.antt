@@ -1,39 +1,27 @@
 use Rattle.rules.specs.Outcome.{onTables}
 use Rattle.rules.specs.Calls.{step, rule, askRule}
 use borrow.Author.Tests.{not-true, not-false}
-use mathlib.Core.Path.{_≡_, refl, sym, _∙_, ap}
+use mathlib.Core.Path.{_∙_, ap}
 use borrow.Author.Needs.{needs}
 use Rattle.desk.proofs.create.Statement.{statement}
 use Rattle.desk.proofs.create.Tie as tie
-use Rattle.desk.proofs.create.Reads as reads
-use Rattle.desk.proofs.create.Lts as lts
-use Rattle.desk.proofs.answers.refuse_desk.Reads as refuse-desk-reads
-use Rattle.desk.proofs.on_tables.Reads as on-tables-reads
-use Rattle.desk.proofs.volumes.create_on.Reads as create-on-reads
-use Rattle.soundness.proofs.is_sound.Reads as is-sound-reads
 
--- src/lib.rt:79:9
 is-sound-requires : tie.Need-is-sound-requires
 is-sound-requires c κs = search needs
 
--- src/lib.rt:80:9
 refuse-desk-requires : tie.Need-refuse-desk-requires
 refuse-desk-requires c κs = search needs
 
--- src/lib.rt:80:9
 returns : tie.Need-returns
 unfolding step
 returns c = rw (← c .before .before .is-sound .ensures, not-true (c .before .before .is-sound .result) (c .before .if1 .taken)) (c .refuse-desk .ensures)
 
--- src/lib.rt:83:18
 create-on-requires : tie.Need-create-on-requires
 create-on-requires c κs = search needs
 
--- src/lib.rt:83:5
 on-tables-requires : tie.Need-on-tables-requires
 on-tables-requires c κs = search needs
 
--- src/lib.rt:76:1
 returns-2 : tie.Need-returns-2
 unfolding step rule askRule
 returns-2 c = rw (← c .before .before .before .before .is-sound .ensures, not-false (c .before .before .before .before .is-sound .result) (c .before .before .before .if1 .left)) (c .on-tables .ensures ∙ ap (onTables (c .before .before .before .before .before .before .args .d)) (c .before .create-on .ensures))

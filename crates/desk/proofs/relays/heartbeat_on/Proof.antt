@@ -5,45 +5,33 @@ use Rattle.lists.specs.RowLaws.{rows-length}
 use Rattle.lists.specs.SearchLaws.{first-row, first-miss, first-below}
 use lib.ListN.{length}
 use native.Mathlib.Omega.{arith}
-use mathlib.Core.Path.{_≡_, refl, sym, _∙_}
+use mathlib.Core.Path.{_≡_, sym, _∙_}
 use borrow.Author.Needs.{needs}
 use Rattle.desk.proofs.relays.heartbeat_on.Statement.{statement}
 use Rattle.desk.proofs.relays.heartbeat_on.Tie as tie
-use Rattle.desk.proofs.relays.heartbeat_on.Reads as reads
-use Rattle.desk.proofs.relays.heartbeat_on.Lts as lts
-use Rattle.desk.proofs.answers.refuse.Reads as refuse-reads
-use Rattle.desk.proofs.relays.beat_at.Reads as beat-at-reads
-use Rattle.rows.proofs.find_relay.Reads as find-relay-reads
 
--- src/relays.rt:96:24
 find-relay-requires : tie.Need-find-relay-requires
 find-relay-requires c κs = search needs
 
--- src/relays.rt:96:19
 enum-known-i : tie.Need-enum-known-i
 enum-known-i c = search needs
 
--- src/relays.rt:97:9
 enum-told : tie.Need-enum-told
 enum-told c = search needs
 
--- src/relays.rt:97:9
 refuse-requires : tie.Need-refuse-requires
 refuse-requires c κs = search needs
 
--- src/relays.rt:97:9
 returns : tie.Need-returns
 unfolding heartbeatRule relayOf heartbeatIn
 returns c = rw (first-miss (isRelay (c .before .before .before .before .before .args .n)) (c .before .before .before .before .before .args .t .relays) (sym (c .before .before .before .find-relay .ensures) ∙ c .before .enum-told .given .1)) (c .refuse .ensures)
 
--- src/relays.rt:99:5
 beat-at-requires : tie.Need-beat-at-requires
 beat-at-requires c κs =
     let rows = c .before .before .before .before .before .args .t .relays in
     let l : length rows ≡ 32 = search (rows-length, needs, c .before .before .before .before .before .good) in
     omega (arith, l, first-below (isRelay (c .before .before .before .before .before .args .n)) rows 0 (c .before .i .given .0 .0) (sym (c .before .before .before .find-relay .ensures) ∙ c .before .i .given .1))
 
--- src/relays.rt:92:1
 returns-2 : tie.Need-returns-2
 unfolding heartbeatRule relayOf
 returns-2 c = rw (first-row (isRelay (c .before .before .before .before .before .before .args .n)) (c .before .before .before .before .before .before .args .t .relays) (c .before .before .i .given .0 .0) (sym (c .before .before .before .before .find-relay .ensures) ∙ c .before .before .i .given .1) blankRelay) (c .beat-at .ensures)

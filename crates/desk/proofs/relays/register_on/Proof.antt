@@ -6,67 +6,50 @@ use Rattle.lists.specs.SearchLaws.{first-row, first-miss, first-below}
 use lib.ListN.{length}
 use borrow.Author.Tests.{lt-ltb, le-ltb, le-leb, lt-leb}
 use native.Mathlib.Omega.{arith}
-use mathlib.Core.Path.{_≡_, refl, sym, _∙_}
+use mathlib.Core.Path.{_≡_, sym, _∙_}
 use borrow.Author.Needs.{needs}
 use Rattle.desk.proofs.relays.register_on.Statement.{statement}
 use Rattle.desk.proofs.relays.register_on.Tie as tie
-use Rattle.desk.proofs.relays.register_on.Reads as reads
-use Rattle.desk.proofs.relays.register_on.Lts as lts
-use Rattle.desk.proofs.answers.refuse.Reads as refuse-reads
-use Rattle.desk.proofs.relays.store_new.Reads as store-new-reads
-use Rattle.rows.proofs.free_relay.Reads as free-relay-reads
 
--- src/relays.rt:49:9
 refuse-requires : tie.Need-refuse-requires
 refuse-requires c κs = search needs
 
--- src/relays.rt:49:9
 returns : tie.Need-returns
 unfolding registerRule
 returns c = rw (lt-ltb _ _ (c .before .if1 .taken)) (c .refuse .ensures)
 
--- src/relays.rt:53:9
 refuse-requires-2 : tie.Need-refuse-requires-2
 refuse-requires-2 c κs = search needs
 
--- src/relays.rt:53:9
 returns-2 : tie.Need-returns-2
 unfolding registerRule
 returns-2 c = rw (le-ltb _ _ (c .before .before .if1 .left), le-leb _ _ (c .before .if2 .taken)) (c .refuse2 .ensures)
 
--- src/relays.rt:56:24
 free-relay-requires : tie.Need-free-relay-requires
 free-relay-requires c κs = search needs
 
--- src/relays.rt:56:19
 enum-known-i : tie.Need-enum-known-i
 enum-known-i c = search needs
 
--- src/relays.rt:57:9
 enum-told : tie.Need-enum-told
 enum-told c = search needs
 
--- src/relays.rt:57:9
 refuse-requires-3 : tie.Need-refuse-requires-3
 refuse-requires-3 c κs = search needs
 
--- src/relays.rt:57:9
 returns-3 : tie.Need-returns-3
 unfolding registerRule registerIn
 returns-3 c = rw (le-ltb _ _ (c .before .before .before .before .before .before .if1 .left), lt-leb _ _ (c .before .before .before .before .before .if2 .left), first-miss freeRelay (c .before .before .before .before .before .before .before .args .t .relays) (sym (c .before .before .before .free-relay .ensures) ∙ c .before .enum-told .given .1)) (c .refuse3 .ensures)
 
--- src/relays.rt:60:21
 add-t9 : tie.Need-add-t9
 add-t9 c = search needs
 
--- src/relays.rt:66:5
 store-new-requires : tie.Need-store-new-requires
 store-new-requires c κs =
     let rows = c .before .before .before .before .before .before .before .args .t .relays in
     let l : length rows ≡ 32 = search (rows-length, needs, c .before .before .before .before .before .before .before .good) in
     omega (arith, l, first-below freeRelay rows 0 (c .before .i .given .0 .0) (sym (c .before .before .before .free-relay .ensures) ∙ c .before .i .given .1))
 
--- src/relays.rt:45:1
 returns-4 : tie.Need-returns-4
 unfolding registerRule registerIn
 returns-4 c = rw (le-ltb _ _ (c .before .before .before .before .before .before .before .if1 .left), lt-leb _ _ (c .before .before .before .before .before .before .if2 .left), first-row freeRelay (c .before .before .before .before .before .before .before .before .args .t .relays) (c .before .before .i .given .0 .0) (sym (c .before .before .before .before .free-relay .ensures) ∙ c .before .before .i .given .1) blankRelay) (c .store-new .ensures)

@@ -1,62 +1,45 @@
 use Rattle.rules.specs.SessionCalls.{stagePut}
 use Rattle.desk.proofs.FindLaws.{found-in, found-row, found-none}
-use Rattle.rules.specs.Tables.{isVolume, isToken, isEntry, isPut, freeVolume, volumeOf, tokenOf, entryOf, staged}
-use Rattle.rows.specs.Blank.{blankVolume, blankToken, blankEntry, blankPut}
+use Rattle.rules.specs.Tables.{isPut, staged}
+use Rattle.rows.specs.Blank.{blankPut}
 use Rattle.lists.specs.RowLaws.{rows-length}
-use lib.ListN.{length, take, length-take}
-use Prim.Native.Nat.{ℕ, _<_, _≤_, _+_}
-use borrow.Author.Tests.{eq-eqb, ne-eqb, lt-ltb, le-ltb, le-leb, lt-leb, not-true, not-false}
-use mathlib.Core.Path.{_≡_, refl, sym, _∙_, ap}
+use lib.ListN.{length, length-take}
+use borrow.Author.Tests.{le-leb, lt-leb}
+use mathlib.Core.Path.{_≡_, refl, _∙_}
 use native.Mathlib.Omega.{arith}
 use borrow.Author.Needs.{needs}
 use Rattle.desk.proofs.sessions.stage_put.Statement.{statement}
 use Rattle.desk.proofs.sessions.stage_put.Tie as tie
-use Rattle.desk.proofs.sessions.stage_put.Reads as reads
-use Rattle.desk.proofs.sessions.stage_put.Lts as lts
-use Rattle.desk.proofs.answers.accept_slot.Reads as accept-slot-reads
-use Rattle.desk.proofs.answers.refuse_slot.Reads as refuse-slot-reads
-use Rattle.desk.proofs.sessions.with_put.Reads as with-put-reads
-use Rattle.rows.proofs.find_put.Reads as find-put-reads
 
--- src/sessions.rt:127:24
 find-put-requires : tie.Need-find-put-requires
 find-put-requires c κs = search needs
 
--- src/sessions.rt:127:19
 enum-known-j : tie.Need-enum-known-j
 enum-known-j c = search needs
 
--- src/sessions.rt:128:12
 enum-told : tie.Need-enum-told
 enum-told c = search needs
 
--- src/sessions.rt:129:13
 refuse-slot-requires : tie.Need-refuse-slot-requires
 refuse-slot-requires c κs = search needs
 
--- src/sessions.rt:129:13
 returns : tie.Need-returns
 unfolding stagePut
 returns c = rw (found-none (isPut (c .before .before .before .before .before .before .before .args .path .now)) (staged (c .before .before .before .before .before .before .before .args .s)) (c .before .before .before .before .find-put .ensures) (c .before .before .enum-told .given .1), le-leb _ _ (c .before .if1 .taken)) (c .refuse-slot .ensures)
 
--- src/sessions.rt:131:13
 with-put-requires : tie.Need-with-put-requires
 with-put-requires c κs = search needs
 
--- src/sessions.rt:132:22
 add-next : tie.Need-add-next
 add-next c = search needs
 
--- src/sessions.rt:133:9
 accept-slot-requires : tie.Need-accept-slot-requires
 accept-slot-requires c κs = search needs
 
--- src/sessions.rt:133:9
 returns-2 : tie.Need-returns-2
 unfolding stagePut
 returns-2 c = rw (found-none (isPut (c .before .before .before .before .before .before .before .before .args .path .now)) (staged (c .before .before .before .before .before .before .before .before .args .s)) (c .before .before .before .before .before .find-put .ensures) (c .before .before .before .enum-told .given .1), lt-leb _ _ (c .before .before .if1 .left)) (c .accept-slot .ensures ∙ rw (c .before .with-put .ensures))
 
--- src/sessions.rt:135:23
 with-put-requires-2 : tie.Need-with-put-requires-2
 with-put-requires-2 c κs =
     let a = c .before .before .before .before .before .before .args in
@@ -64,11 +47,9 @@ with-put-requires-2 c κs =
     let h = found-in (isPut (a .path .now)) (staged (a .s)) (c .before .before .before .find-put .ensures) (c .before .j .given .0 .0) _ refl (c .before .j .given .1) in
     omega (arith, l, h, length-take (a .s .count) (a .s .puts))
 
--- src/sessions.rt:135:5
 accept-slot-requires-2 : tie.Need-accept-slot-requires-2
 accept-slot-requires-2 c κs = search needs
 
--- src/sessions.rt:122:1
 returns-3 : tie.Need-returns-3
 unfolding stagePut
 returns-3 c = rw (found-row (isPut (c .before .before .before .before .before .before .before .before .args .path .now)) (staged (c .before .before .before .before .before .before .before .before .args .s)) (c .before .before .before .before .before .find-put .ensures) (c .before .before .before .j .given .0 .0) blankPut (c .before .before .before .j .given .1)) (c .accept-slot2 .ensures ∙ rw (c .before .with-put2 .ensures))

@@ -2,10 +2,7 @@ use Rattle.rules.specs.TokenCalls.{lookEntry}
 use mathlib.Core.Path.{refl}
 use Rattle.desk.proofs.tokens.look_entry.Statement.{statement}
 use Rattle.desk.proofs.tokens.look_entry.Tie as tie
-use Rattle.desk.proofs.tokens.look_entry.Reads as reads
-use Rattle.desk.proofs.tokens.look_entry.Lts as lts
 
--- src/tokens.rt:26:1
 returns : tie.Need-returns
 unfolding lookEntry
 returns c = refl

@@ -5,122 +5,87 @@ use Rattle.rules.specs.VolumeCalls.{createRule, createIn}
 use lib.Seq.{take-all}
 use Rattle.text.specs.Text.{pathLimit}
 use Rattle.desk.proofs.FindLaws.{found-in, found-row, found-none}
-use Rattle.rules.specs.Tables.{isVolume, isToken, isEntry, isPut, freeVolume, volumeOf, tokenOf, entryOf, staged}
-use Rattle.rows.specs.Blank.{blankVolume, blankToken, blankEntry, blankPut}
+use Rattle.rules.specs.Tables.{freeVolume}
+use Rattle.rows.specs.Blank.{blankVolume}
 use Rattle.lists.specs.RowLaws.{rows-length}
-use lib.ListN.{length, take, length-take}
-use Prim.Native.Nat.{ℕ, _<_, _≤_, _+_}
-use borrow.Author.Tests.{eq-eqb, ne-eqb, lt-ltb, le-ltb, le-leb, lt-leb, not-true, not-false}
-use mathlib.Core.Path.{_≡_, refl, sym, _∙_, ap}
-use native.Mathlib.Omega.{arith}
+use borrow.Author.Tests.{le-leb, lt-leb, not-true, not-false}
+use mathlib.Core.Path.{_≡_, sym, _∙_}
 use borrow.Author.Needs.{needs}
 use Rattle.desk.proofs.volumes.create_on.Statement.{statement}
 use Rattle.desk.proofs.volumes.create_on.Tie as tie
-use Rattle.desk.proofs.volumes.create_on.Reads as reads
-use Rattle.desk.proofs.volumes.create_on.Lts as lts
-use Rattle.desk.proofs.answers.refuse.Reads as refuse-reads
-use Rattle.desk.proofs.volumes.make_volume.Reads as make-volume-reads
-use Rattle.desk.proofs.volumes.store_volume.Reads as store-volume-reads
-use Rattle.rows.proofs.free_volume.Reads as free-volume-reads
-use Rattle.rows.proofs.cap_fits.Reads as cap-fits-reads
-use Rattle.rows.proofs.name_taken.Reads as name-taken-reads
-use Rattle.text.proofs.name.is_name.Reads as is-name-reads
 
--- src/volumes.rt:78:9
 is-name-requires : tie.Need-is-name-requires
 is-name-requires c κs = search needs
 
--- src/volumes.rt:79:9
 refuse-requires : tie.Need-refuse-requires
 refuse-requires c κs = search needs
 
--- src/volumes.rt:79:9
 returns : tie.Need-returns
 unfolding createRule
 returns c = rw (← c .before .before .is-name .ensures, not-true (c .before .before .is-name .result) (c .before .if1 .taken)) (c .refuse .ensures)
 
--- src/volumes.rt:81:9
 shards-fit-requires : tie.Need-shards-fit-requires
 shards-fit-requires c κs = search needs
 
--- src/volumes.rt:82:9
 refuse-requires-2 : tie.Need-refuse-requires-2
 refuse-requires-2 c κs = search needs
 
--- src/volumes.rt:82:9
 returns-2 : tie.Need-returns-2
 unfolding createRule
 returns-2 c = rw (← c .before .before .before .before .is-name .ensures, not-false (c .before .before .before .before .is-name .result) (c .before .before .before .if1 .left), ← c .before .before .shards-fit .ensures, not-true (c .before .before .shards-fit .result) (c .before .if2 .taken)) (c .refuse2 .ensures)
 
--- src/volumes.rt:84:9
 cap-fits-requires : tie.Need-cap-fits-requires
 cap-fits-requires c κs = search needs
 
--- src/volumes.rt:85:9
 refuse-requires-3 : tie.Need-refuse-requires-3
 refuse-requires-3 c κs = search needs
 
--- src/volumes.rt:85:9
 returns-3 : tie.Need-returns-3
 unfolding createRule
 returns-3 c = rw (← c .before .before .before .before .before .before .is-name .ensures, not-false (c .before .before .before .before .before .before .is-name .result) (c .before .before .before .before .before .if1 .left), ← c .before .before .before .before .shards-fit .ensures, not-false (c .before .before .before .before .shards-fit .result) (c .before .before .before .if2 .left), ← c .before .before .cap-fits .ensures, not-true (c .before .before .cap-fits .result) (c .before .if3 .taken)) (c .refuse3 .ensures)
 
--- src/volumes.rt:88:8
 name-taken-requires : tie.Need-name-taken-requires
 name-taken-requires c κs = search needs
 
--- src/volumes.rt:89:9
 refuse-requires-4 : tie.Need-refuse-requires-4
 refuse-requires-4 c κs = search needs
 
--- src/volumes.rt:89:9
 returns-4 : tie.Need-returns-4
 unfolding createRule
 returns-4 c = rw (← c .before .before .before .before .before .before .before .before .before .is-name .ensures, not-false (c .before .before .before .before .before .before .before .before .before .is-name .result) (c .before .before .before .before .before .before .before .before .if1 .left), ← c .before .before .before .before .before .before .before .shards-fit .ensures, not-false (c .before .before .before .before .before .before .before .shards-fit .result) (c .before .before .before .before .before .before .if2 .left), ← c .before .before .before .before .before .cap-fits .ensures, not-false (c .before .before .before .before .before .cap-fits .result) (c .before .before .before .before .if3 .left), ← c .before .before .name-taken .ensures, c .before .if4 .taken) (c .refuse4 .ensures)
 
--- src/volumes.rt:93:9
 refuse-requires-5 : tie.Need-refuse-requires-5
 refuse-requires-5 c κs = search needs
 
--- src/volumes.rt:93:9
 returns-5 : tie.Need-returns-5
 unfolding createRule
 returns-5 c = rw (← c .before .before .before .before .before .before .before .before .before .before .is-name .ensures, not-false (c .before .before .before .before .before .before .before .before .before .before .is-name .result) (c .before .before .before .before .before .before .before .before .before .if1 .left), ← c .before .before .before .before .before .before .before .before .shards-fit .ensures, not-false (c .before .before .before .before .before .before .before .before .shards-fit .result) (c .before .before .before .before .before .before .before .if2 .left), ← c .before .before .before .before .before .before .cap-fits .ensures, not-false (c .before .before .before .before .before .before .cap-fits .result) (c .before .before .before .before .before .if3 .left), ← c .before .before .before .name-taken .ensures, c .before .before .if4 .left, le-leb _ _ (c .before .if5 .taken)) (c .refuse5 .ensures)
 
--- src/volumes.rt:95:24
 free-volume-requires : tie.Need-free-volume-requires
 free-volume-requires c κs = search needs
 
--- src/volumes.rt:95:19
 enum-known-i : tie.Need-enum-known-i
 enum-known-i c = search needs
 
--- src/volumes.rt:96:9
 enum-told : tie.Need-enum-told
 enum-told c = search needs
 
--- src/volumes.rt:96:9
 refuse-requires-6 : tie.Need-refuse-requires-6
 refuse-requires-6 c κs = search needs
 
--- src/volumes.rt:96:9
 returns-6 : tie.Need-returns-6
 unfolding createRule createIn
 returns-6 c = rw (← c .before .before .before .before .before .before .before .before .before .before .before .before .before .is-name .ensures, not-false (c .before .before .before .before .before .before .before .before .before .before .before .before .before .is-name .result) (c .before .before .before .before .before .before .before .before .before .before .before .before .if1 .left), ← c .before .before .before .before .before .before .before .before .before .before .before .shards-fit .ensures, not-false (c .before .before .before .before .before .before .before .before .before .before .before .shards-fit .result) (c .before .before .before .before .before .before .before .before .before .before .if2 .left), ← c .before .before .before .before .before .before .before .before .before .cap-fits .ensures, not-false (c .before .before .before .before .before .before .before .before .before .cap-fits .result) (c .before .before .before .before .before .before .before .before .if3 .left), ← c .before .before .before .before .before .before .name-taken .ensures, c .before .before .before .before .before .if4 .left, lt-leb _ _ (c .before .before .before .before .if5 .left), found-none freeVolume (c .before .before .before .before .before .before .before .before .before .before .before .before .before .before .before .args .t .volumes) (c .before .before .before .free-volume .ensures) (c .before .enum-told .given .1)) (c .refuse6 .ensures)
 
--- src/volumes.rt:98:25
 add-make-volume : tie.Need-add-make-volume
 add-make-volume c = search needs
 
--- src/volumes.rt:98:9
 make-volume-requires : tie.Need-make-volume-requires
 make-volume-requires c κs = search needs
 
--- src/volumes.rt:99:5
 store-volume-requires : tie.Need-store-volume-requires
 store-volume-requires c κs = found-in _ (c .before .before .before .before .before .before .before .before .before .before .before .before .before .before .before .before .args .t .volumes) (c .before .before .before .before .free-volume .ensures) _ 8 (search (rows-length, needs, c .before .before .before .before .before .before .before .before .before .before .before .before .before .before .before .before .good)) (c .before .before .i .given .1)
 
--- src/volumes.rt:75:1
 returns-7 : tie.Need-returns-7
 unfolding createRule createIn
 returns-7 c =

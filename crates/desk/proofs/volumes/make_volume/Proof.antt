@@ -1,15 +1,10 @@
 use borrow.Author.Needs.{needs}
 use Rattle.desk.proofs.volumes.make_volume.Statement.{statement}
 use Rattle.desk.proofs.volumes.make_volume.Tie as tie
-use Rattle.desk.proofs.volumes.make_volume.Reads as reads
-use Rattle.desk.proofs.volumes.make_volume.Lts as lts
-use Rattle.text.proofs.to_text.Reads as to-text-reads
 
--- src/volumes.rt:48:9
 to-text-requires : tie.Need-to-text-requires
 to-text-requires c κs = search needs
 
--- src/volumes.rt:45:1
 returns : tie.Need-returns
 returns c = rw (c .to-text .ensures)
 

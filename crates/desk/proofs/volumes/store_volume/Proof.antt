@@ -2,27 +2,19 @@ use Rattle.rules.specs.VolumeCalls.{createIn}
 use borrow.Author.Needs.{needs}
 use Rattle.desk.proofs.volumes.store_volume.Statement.{statement}
 use Rattle.desk.proofs.volumes.store_volume.Tie as tie
-use Rattle.desk.proofs.volumes.store_volume.Reads as reads
-use Rattle.desk.proofs.volumes.store_volume.Lts as lts
-use Rattle.desk.proofs.answers.accept.Reads as accept-reads
 
--- src/volumes.rt:70:5
 mul-v : tie.Need-mul-v
 mul-v c = search needs
 
--- src/volumes.rt:70:5
 element-set-from-v : tie.Need-element-set-from-v
 element-set-from-v c = search needs
 
--- src/volumes.rt:72:12
 cast-accept : tie.Need-cast-accept
 cast-accept c = search needs
 
--- src/volumes.rt:72:5
 accept-requires : tie.Need-accept-requires
 accept-requires c κs = search needs
 
--- src/volumes.rt:65:1
 returns : tie.Need-returns
 unfolding createIn
 returns c = c .accept .ensures

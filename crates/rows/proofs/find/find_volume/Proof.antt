@@ -1,9 +1,8 @@
 -- The first row that passes: the invariant says that the search of the whole table is the search of the rows from i on.
 use borrow.Author.Needs.{needs}
-use borrow.Author.Tests.{eq-eqb, ne-eqb}
 use native.Mathlib.Omega.{arith}
 use mathlib.Core.Path.{_≡_, refl, sym, _∙_}
-use Prim.Native.Nat.{_-_, _<_}
+use Prim.Native.Nat.{_-_}
 use lib.ListN.{length, drop}
 use Rattle.lists.specs.Lists.{firstAt}
 use Rattle.lists.specs.SearchLaws.{first-here, first-on, first-end}

@@ -3,7 +3,7 @@ use borrow.Author.Needs.{needs}
 use borrow.Author.Tests.{eq-eqb, ne-eqb}
 use native.Mathlib.Omega.{arith}
 use mathlib.Core.Path.{_≡_, refl, sym, _∙_}
-use Prim.Native.Nat.{_-_, _<_}
+use Prim.Native.Nat.{_-_}
 use lib.ListN.{length, drop}
 use Rattle.lists.specs.Lists.{firstAt}
 use Rattle.lists.specs.SearchLaws.{first-here, first-on, first-end}

@@ -1,23 +1,16 @@
-use Rattle.rows.specs.Blank.{blankVolume, blankEntry, blankPut}
-use Rattle.rules.specs.VolumeCalls.{hasName}
-use Rattle.rules.specs.Tables.{isEntry, isPut}
+use Rattle.rows.specs.Blank.{blankPut}
+use Rattle.rules.specs.Tables.{isPut}
 use Rattle.lists.specs.RowLaws.{rows-length}
-use Rattle.lists.specs.TestLaws.{any-here, any-on, any-end}
 use Rattle.lists.specs.SearchLaws.{first-here, first-on, first-end}
-use Rattle.lists.specs.Lists.{firstAt, anyOf}
+use Rattle.lists.specs.Lists.{firstAt}
 use lib.Seq.{getD-take}
-use lib.ListN.{length, drop, take, getD, length-take}
-use Prim.Native.Nat.{ℕ, _-_, _<_, _≤_, min}
-use borrow.Author.Tests.{eq-eqb, ne-eqb, lt-ltb, le-ltb, le-leb, lt-leb, not-true, not-false}
+use lib.ListN.{length, drop, take, length-take}
+use Prim.Native.Nat.{_-_, _<_, min}
 use mathlib.Core.Path.{_≡_, refl, sym, _∙_}
 use native.Mathlib.Omega.{arith}
 use borrow.Author.Needs.{needs}
 use Rattle.rows.proofs.texts.find_put.Statement.{statement}
 use Rattle.rows.proofs.texts.find_put.Tie as tie
-use Rattle.rows.proofs.texts.find_put.Reads as reads
-use Rattle.rows.proofs.texts.find_put.Lts as lts
-use Rattle.rows.proofs.texts.put_count.Reads as put-count-reads
-use Rattle.text.proofs.same_text.Reads as same-text-reads
 
 abbrev Inv-loop : tie.InvT-loop
 Inv-loop count path rows n i₀ i = (length rows ≡ 8) × (n ≡ min count 8) × (firstAt (isPut path) 0 (take count rows) ≡ firstAt (isPut path) i (drop i (take count rows)))
@@ -25,27 +18,21 @@ Inv-loop count path rows n i₀ i = (length rows ≡ 8) × (n ≡ min count 8) �
 abbrev μ-loop : tie.MeasureT-loop
 μ-loop count path rows n i₀ i = 8 - i
 
--- src/texts.rt:54:9
 put-count-requires : tie.Need-put-count-requires Inv-loop μ-loop
 put-count-requires c κs = search needs
 
--- src/texts.rt:56:5
 loop-holds : tie.Need-loop-holds Inv-loop μ-loop
 loop-holds c = (search (rows-length, needs), c .put-count .ensures, refl)
 
--- src/texts.rt:57:17
 mul-p : tie.Need-mul-p Inv-loop μ-loop
 mul-p c = omega arith
 
--- src/texts.rt:57:17
 array-copy-out-p : tie.Need-array-copy-out-p Inv-loop μ-loop
 array-copy-out-p c = omega arith
 
--- src/texts.rt:59:12
 same-text-requires : tie.Need-same-text-requires Inv-loop μ-loop
 same-text-requires c κs = search needs
 
--- src/texts.rt:60:13
 returns : tie.Need-returns Inv-loop μ-loop
 unfolding isPut
 returns c =
@@ -56,15 +43,12 @@ returns c =
     let w : i < a .count = omega arith in
     sym (h .2 ∙ first-here (isPut (a .path .now)) (take (a .count) (a .t1)) blankPut i (omega arith) (rw (getD-take (a .count) (a .t1) i blankPut w) (c .before .same-text .ensures)) (c .if1 .taken))
 
--- src/texts.rt:62:9
 add-i : tie.Need-add-i Inv-loop μ-loop
 add-i c = omega arith
 
--- src/texts.rt:56:5
 loop-less : tie.Need-loop-less Inv-loop μ-loop
 loop-less c = omega arith
 
--- src/texts.rt:56:5
 loop-again : tie.Need-loop-again Inv-loop μ-loop
 unfolding isPut
 loop-again c =
@@ -75,7 +59,6 @@ loop-again c =
     let w : i < a .count = omega arith in
     (h .0, h .1, h .2 ∙ first-on (isPut (a .path .now)) (take (a .count) (a .t1)) blankPut i (omega arith) (rw (getD-take (a .count) (a .t1) i blankPut w) (c .before .same-text .ensures)) (c .if1 .left))
 
--- src/texts.rt:51:1
 returns-2 : tie.Need-returns-2 Inv-loop μ-loop
 returns-2 c = let h = c .before .loop .inv in sym (h .2 ∙ first-end _ _ _ (let q = length-take (c .before .before .before .before .args .count) (c .before .before .before .before .args .t1) in omega arith))
 

@@ -1,22 +1,15 @@
-use Rattle.rows.specs.Blank.{blankVolume, blankEntry, blankPut}
+use Rattle.rows.specs.Blank.{blankVolume}
 use Rattle.rules.specs.VolumeCalls.{hasName}
-use Rattle.rules.specs.Tables.{isEntry, isPut}
 use Rattle.lists.specs.RowLaws.{rows-length}
 use Rattle.lists.specs.TestLaws.{any-here, any-on, any-end}
-use Rattle.lists.specs.SearchLaws.{first-here, first-on, first-end}
-use Rattle.lists.specs.Lists.{firstAt, anyOf}
-use lib.Seq.{getD-take}
-use lib.ListN.{length, drop, take, getD, length-take}
-use Prim.Native.Nat.{ℕ, _-_, _<_, _≤_, min}
-use borrow.Author.Tests.{eq-eqb, ne-eqb, lt-ltb, le-ltb, le-leb, lt-leb, not-true, not-false}
+use Rattle.lists.specs.Lists.{anyOf}
+use lib.ListN.{length, drop}
+use Prim.Native.Nat.{_-_}
 use mathlib.Core.Path.{_≡_, refl, sym, _∙_}
 use native.Mathlib.Omega.{arith}
 use borrow.Author.Needs.{needs}
 use Rattle.rows.proofs.texts.name_taken.Statement.{statement}
 use Rattle.rows.proofs.texts.name_taken.Tie as tie
-use Rattle.rows.proofs.texts.name_taken.Reads as reads
-use Rattle.rows.proofs.texts.name_taken.Lts as lts
-use Rattle.rows.proofs.texts.has_name.Reads as has-name-reads
 
 abbrev Inv-loop : tie.InvT-loop
 Inv-loop a name rows i₀ i = (length rows ≡ 8) × (anyOf (hasName a name) rows ≡ anyOf (hasName a name) (drop i rows))
@@ -24,45 +17,36 @@ Inv-loop a name rows i₀ i = (length rows ≡ 8) × (anyOf (hasName a name) row
 abbrev μ-loop : tie.MeasureT-loop
 μ-loop a name rows i₀ i = 8 - i
 
--- src/texts.rt:94:5
 loop-holds : tie.Need-loop-holds Inv-loop μ-loop
 loop-holds c = (search (rows-length, needs), refl)
 
--- src/texts.rt:95:17
 mul-v : tie.Need-mul-v Inv-loop μ-loop
 mul-v c = omega arith
 
--- src/texts.rt:95:17
 array-copy-out-v : tie.Need-array-copy-out-v Inv-loop μ-loop
 array-copy-out-v c = omega arith
 
--- src/texts.rt:96:12
 has-name-requires : tie.Need-has-name-requires Inv-loop μ-loop
 has-name-requires c κs = search needs
 
--- src/texts.rt:97:13
 returns : tie.Need-returns Inv-loop μ-loop
 returns c =
     let h = c .before .before .before .before .loop .inv in
     let p = hasName (c .before .before .before .before .before .before .args .a) (c .before .before .before .before .before .before .args .name .now) in
     sym (h .1 ∙ any-here p (c .before .before .before .before .before .before .args .t1) blankVolume (c .before .before .before .before .loop .i) (omega arith) (c .before .has-name .ensures) (c .if1 .taken))
 
--- src/texts.rt:99:9
 add-i : tie.Need-add-i Inv-loop μ-loop
 add-i c = omega arith
 
--- src/texts.rt:94:5
 loop-less : tie.Need-loop-less Inv-loop μ-loop
 loop-less c = omega arith
 
--- src/texts.rt:94:5
 loop-again : tie.Need-loop-again Inv-loop μ-loop
 loop-again c =
     let h = c .before .before .before .before .loop .inv in
     let p = hasName (c .before .before .before .before .before .before .args .a) (c .before .before .before .before .before .before .args .name .now) in
     (h .0, h .1 ∙ any-on p (c .before .before .before .before .before .before .args .t1) blankVolume (c .before .before .before .before .loop .i) (omega arith) (c .before .has-name .ensures) (c .if1 .left))
 
--- src/texts.rt:90:1
 returns-2 : tie.Need-returns-2 Inv-loop μ-loop
 returns-2 c = let h = c .before .loop .inv in sym (h .1 ∙ any-end _ (c .before .before .before .args .t1) (c .before .loop .i) (omega arith))
 

@@ -1,15 +1,10 @@
 use borrow.Author.Needs.{needs}
 use Rattle.rules.proofs.rows.fresh_session.Statement.{statement}
 use Rattle.rules.proofs.rows.fresh_session.Tie as tie
-use Rattle.rules.proofs.rows.fresh_session.Reads as reads
-use Rattle.rules.proofs.rows.fresh_session.Lts as lts
-use Rattle.rules.proofs.rows.fresh_put.Reads as fresh-put-reads
 
--- src/rows.rt:132:9
 fresh-put-requires : tie.Need-fresh-put-requires
 fresh-put-requires c κs = search needs
 
--- src/rows.rt:129:1
 returns : tie.Need-returns
 returns c = rw (c .fresh-put .ensures)
 
