@@ -1,0 +1,70 @@
+// The journal of document 01: records read and written.
+//
+// A record is a kind and the kind's list of fields. One table gives the lists; the reader and the writer go by it, so no
+// kind has code of its own. The definitions are in specs/: Numbers and Fields (the parts of a record), Records (the table
+// and the calls it stands for), Places (what the reader answers), Journal (the frame), Theorems (what is proved of them).
+use amount::Cap;
+use rules::Mode;
+
+// The kinds of calls, 01 to 10 in the journal, in that order.
+pub enum Kind {
+    Advance,
+    Create,
+    Deposit,
+    Delete,
+    Undelete,
+    Grant,
+    Attenuate,
+    Revoke,
+    Open,
+    Stage,
+    Commit,
+    Abandon,
+    Remove,
+    Look,
+    Register,
+    Heartbeat,
+}
+
+// The fields of records. `No` is a volume, token or relay number, `Text` a name, path or prefix, `Amount` a block, coins, a
+// size or a capacity. `None` stands in the table after a kind's last field.
+pub enum Field {
+    Account,
+    No,
+    Slot,
+    K,
+    M,
+    Text,
+    Amount,
+    Hash,
+    Mode,
+    Cap,
+    From,
+    Until,
+    None,
+}
+
+// A record that was read. Numbers are by value; of the account, the text and the hash it says where in the record's bytes
+// they begin. A field that the kind does not have is 0, the mode Read and the cap unlimited.
+pub struct Record {
+    pub kind: Kind,
+    pub account: usize,
+    pub no: u32,
+    pub slot: u8,
+    pub k: u8,
+    pub m: u8,
+    pub text: usize,
+    pub text_len: usize,
+    pub amount: u64,
+    pub hash: usize,
+    pub mode: Mode,
+    pub cap: Cap,
+    pub from: u64,
+    pub until: u64,
+}
+
+// What reading a record's bytes gives: the record, or a refusal's number.
+pub enum Reading {
+    Fits(Record),
+    Refused(u32),
+}
