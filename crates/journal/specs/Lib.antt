@@ -4,4 +4,6 @@ pub mod Fields
 pub mod FieldLaws
 pub mod Records
 pub mod RecordLaws
+pub mod Places
+pub mod PlaceLaws
 pub mod Theorems
