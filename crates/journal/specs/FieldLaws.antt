@@ -89,7 +89,7 @@ pub cond-found : {A : Type 0} (t : Bool) (d : Decoded A) (a : A) (r : List ℕ) 
 cond-found true d a r e = (refl, e)
 cond-found false d a r e = never a r e
 
-bytes-take : (n : ℕ) (l : List ℕ) → areBytes l ≡ true → areBytes (take n l) ≡ true
+pub bytes-take : (n : ℕ) (l : List ℕ) → areBytes l ≡ true → areBytes (take n l) ≡ true
 bytes-take zero l h = refl
 bytes-take (suc n) [] h = refl
 bytes-take (suc n) (b ∷ l) h = rw (and-left (ltb b 256) (areBytes l) h) (bytes-take n l (and-right (ltb b 256) (areBytes l) h))

@@ -6,4 +6,5 @@ pub mod Records
 pub mod RecordLaws
 pub mod Places
 pub mod PlaceLaws
+pub mod Table
 pub mod Theorems

@@ -3,6 +3,9 @@
 // A record is a kind and the kind's list of fields. One table gives the lists; the reader and the writer go by it, so no
 // kind has code of its own. The definitions are in specs/: Numbers and Fields (the parts of a record), Records (the table
 // and the calls it stands for), Places (what the reader answers), Journal (the frame), Theorems (what is proved of them).
+mod numbers;
+mod table;
+
 use amount::Cap;
 use rules::Mode;
 
@@ -67,4 +70,22 @@ pub struct Record {
 pub enum Reading {
     Fits(Record),
     Refused(u32),
+}
+
+// What a byte names as a kind.
+pub enum Named {
+    Kind(Kind),
+    Unknown,
+}
+
+// Reading one field: the record with it and the place after it, or a refusal.
+pub enum Step {
+    Next(Record, usize),
+    Refused,
+}
+
+// A number at a place of the bytes, where there are enough.
+pub enum Number {
+    Value(u64),
+    Cut,
 }
