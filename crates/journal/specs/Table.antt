@@ -14,7 +14,7 @@ use Rattle.journal.specs.declared.Number.the-variants.{Value, Cut}
 use Rattle.journal.specs.declared.Step.{Step}
 use Rattle.journal.specs.declared.Step.the-variants.{Next, Refused}
 use Rattle.journal.specs.declared.Record.{Record}
-use Rattle.journal.specs.Fields.{Decoded, nothing, found, ValueOf, decodeNumber, encode}
+use Rattle.journal.specs.Fields.{Format, number, text, bytes, cap, mode, Decoded, nothing, found, ValueOf, decodeNumber, encode}
 use Rattle.journal.specs.Records.{Version, v01, formatOf, fieldsOf, kindNumbered}
 use Rattle.journal.specs.Places.{place}
 
@@ -46,3 +46,34 @@ numberAt w l = asAnswer (decodeNumber w l)
 abbrev pub stepTo : (v : Version) (f : Field) → ℕ → Record → Decoded (ValueOf (formatOf v f)) → Step
 stepTo v f at r nothing = Refused
 stepTo v f at r (found x rest) = Next (place v f at x r) (at + length (encode (formatOf v f) x))
+
+-- how many bytes a field that is a number has; 0 for the others
+abbrev pub widthIn : Format → ℕ
+widthIn (number w) = w
+widthIn (text w most) = 0
+widthIn (bytes n) = 0
+widthIn cap = 0
+widthIn mode = 0
+
+abbrev pub widthOf : Field → ℕ
+widthOf f = widthIn (formatOf v01 f)
+
+-- the record with a field that is a number; the others are left as they are
+abbrev pub placeNumber : Field → ℕ → Record → Record
+placeNumber its.Account n r = r
+placeNumber its.No n r = place v01 its.No 0 n r
+placeNumber its.Slot n r = place v01 its.Slot 0 n r
+placeNumber its.K n r = place v01 its.K 0 n r
+placeNumber its.M n r = place v01 its.M 0 n r
+placeNumber its.Text n r = r
+placeNumber its.Amount n r = place v01 its.Amount 0 n r
+placeNumber its.Hash n r = r
+placeNumber its.Mode n r = r
+placeNumber its.Cap n r = r
+placeNumber its.From n r = place v01 its.From 0 n r
+placeNumber its.Until n r = place v01 its.Until 0 n r
+placeNumber its.None n r = r
+
+abbrev pub stepNumber : Field → ℕ → Record → Decoded ℕ → Step
+stepNumber f at r nothing = Refused
+stepNumber f at r (found n rest) = Next (placeNumber f n r) (at + widthOf f)
