@@ -1,3 +1,4 @@
 pub mod ByteLaws
 pub mod TableLaws
 pub mod StepLaws
+pub mod ReadLaws

@@ -3,7 +3,7 @@
 use mathlib.Core.List.{List, [], _∷_, _++_}
 use mathlib.Core.Option.{Option, none, some}
 use Prim.Native.Nat.{ℕ, _+_, _-_}
-use lib.ListN.{length, replicate}
+use lib.ListN.{length, drop, replicate}
 use Rattle.journal.specs.declared.Kind.{Kind}
 use Rattle.journal.specs.declared.Field.{Field}
 use Rattle.journal.specs.declared.Field.the-variants as its
@@ -14,9 +14,11 @@ use Rattle.journal.specs.declared.Number.the-variants.{Value, Cut}
 use Rattle.journal.specs.declared.Step.{Step}
 use Rattle.journal.specs.declared.Step.the-variants.{Next, Refused}
 use Rattle.journal.specs.declared.Record.{Record}
-use Rattle.journal.specs.Fields.{Format, number, text, bytes, cap, mode, Decoded, nothing, found, ValueOf, decodeNumber, encode}
-use Rattle.journal.specs.Records.{Version, v01, formatOf, fieldsOf, kindNumbered}
-use Rattle.journal.specs.Places.{place}
+use Rattle.journal.specs.declared.Reading.{Reading}
+use Rattle.journal.specs.declared.Reading.the-variants as answer
+use Rattle.journal.specs.Fields.{Format, number, text, bytes, cap, mode, Decoded, nothing, found, ValueOf, ValuesOf, decodeNumber, decodeAll, encode}
+use Rattle.journal.specs.Records.{Version, v01, formatOf, formsOf, fieldsOf, kindNumbered}
+use Rattle.journal.specs.Places.{RECORD, place, placeAll}
 
 abbrev pub namedBy : Option Kind → Named
 namedBy none = a.Unknown
@@ -77,3 +79,13 @@ placeNumber its.None n r = r
 abbrev pub stepNumber : Field → ℕ → Record → Decoded ℕ → Step
 stepNumber f at r nothing = Refused
 stepNumber f at r (found n rest) = Next (placeNumber f n r) (at + widthOf f)
+
+-- the answer once the fields that are left were read: no byte may be left over
+abbrev pub ending : (v : Version) (fs : List Field) → ℕ → Record → Decoded (ValuesOf (formsOf v fs)) → Reading
+ending v fs at r nothing = answer.Refused RECORD
+ending v fs at r (found x []) = answer.Fits (placeAll v fs at x r)
+ending v fs at r (found x (b ∷ l)) = answer.Refused RECORD
+
+-- the answer where these fields are left to read, from the place on, into the record
+unfoldable pub readOn : (v : Version) (fs : List Field) → ℕ → Record → List ℕ → Reading
+readOn v fs at r l = ending v fs at r (decodeAll (formsOf v fs) (drop at l))

@@ -5,10 +5,16 @@
 // and the calls it stands for), Places (what the reader answers), Journal (the frame), Theorems (what is proved of them).
 mod fields;
 mod numbers;
+mod records;
 mod table;
+
+pub use records::read_record;
 
 use amount::Cap;
 use rules::Mode;
+
+// 27: a record that is cut or does not fit, an unknown kind, cap byte or mode.
+pub const RECORD: u32 = 27;
 
 // The kinds of calls, 01 to 10 in the journal, in that order.
 pub enum Kind {

@@ -1,6 +1,6 @@
 // The table of document 01's calls: each kind's number and its list of fields.
 ghost use mathlib.Core.Path.{_≡_};
-ghost use Prim.Native.Nat.{_+_, _<_};
+ghost use Prim.Native.Nat.{_+_, _<_, _≤_};
 ghost use lib.ListN.{length};
 ghost use Rattle.journal.specs.Records.{v01, fieldsOf, kindNumber};
 ghost use Rattle.journal.specs.Table.{named, padded};
@@ -45,7 +45,7 @@ pub fn kind_named(n: u8) -> Named
 
 // How many fields a kind has.
 pub fn field_count(kind: Kind) -> usize
-    ensures { λ r. ⌜ r ≡ length (fieldsOf v01 kind) ⌝ }
+    ensures { λ r. ⌜ (r ≡ length (fieldsOf v01 kind)) × (r ≤ 7) ⌝ }
 {
     match kind {
         Kind::Advance => 1,
