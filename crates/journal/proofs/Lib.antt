@@ -2,3 +2,4 @@ pub mod ByteLaws
 pub mod TableLaws
 pub mod StepLaws
 pub mod ReadLaws
+pub mod FrameLaws

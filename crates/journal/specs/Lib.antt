@@ -7,4 +7,5 @@ pub mod RecordLaws
 pub mod Places
 pub mod PlaceLaws
 pub mod Table
+pub mod Journal
 pub mod Theorems

@@ -6,7 +6,7 @@ use mathlib.Core.Option.{Option, none, some}
 use Prim.Native.Nat.{ℕ, _+_}
 use lib.Dec.{eqb}
 use lib.Pow.{areBytes}
-use lib.ListN.{length, take, drop}
+use lib.ListN.{length, take, drop, replicate}
 use lib.Seq.{take-at, drop-at, drop-drop}
 use borrow.Author.Tests.{eqb-true}
 use Rattle.rules.specs.Calls.{Call}
@@ -20,7 +20,7 @@ use Rattle.journal.specs.NumberLaws.{and-left, and-right, length-bytesOf
 use Rattle.journal.specs.Fields.{ValueOf, ValuesOf, encode, encodeAll, fits, fitsAll}
 use Rattle.journal.specs.Records.{Version, textWidth, formatOf, formsOf, fieldsOf, Values, callOf, Parsed, unfit, parsed, parse, callParsed, readRecord, recordBytes}
 use Rattle.journal.specs.RecordLaws.{Given, parse-given}
-use Rattle.journal.specs.Places.{blank, place, placeAll, readingOf, readAt, bytesAt, valueAt, valuesAt, callAt, callRead}
+use Rattle.journal.specs.Places.{blank, place, placeAll, readingOf, readAt, bytesAt, padded32, valueAt, valuesAt, callAt, callRead}
 
 -- what stands after the bytes that stand at a place
 pub past : (at : ℕ) (l a m : List ℕ) → drop at l ≡ a ++ m → drop (at + length a) l ≡ m
@@ -29,6 +29,9 @@ past at l a m e = sym (drop-drop (length a) at l) ∙ ap (drop (length a)) e ∙
 -- bytes that stand at a place
 pub there : (at n : ℕ) (l b m : List ℕ) → drop at l ≡ b ++ m → length b ≡ n → bytesAt at n l ≡ b
 there at n l b m e h = rw e (take-at b m n h)
+
+pub there32 : (at : ℕ) (l b m : List ℕ) → drop at l ≡ b ++ m → length b ≡ 32 → padded32 (drop at l) ≡ b
+there32 at l b m e h = rw (e, append-assoc b m (replicate 32 0)) (take-at b (m ++ replicate 32 0) 32 h)
 
 -- a text that stands at a place, after its length
 pub text-there : (at w : ℕ) (l t m : List ℕ) → drop at l ≡ (bytesOf w (length t) ++ t) ++ m → bytesAt (at + w) (length t) l ≡ t
@@ -40,14 +43,14 @@ text-there at w l t m e =
 pub placed : (v : Version) (f : Field) (at : ℕ) (x : ValueOf (formatOf v f)) (r : Record) (l m : List ℕ) → drop at l ≡ encode (formatOf v f) x ++ m
     → fits (formatOf v f) x ≡ true → valueAt v f (place v f at x r) l ≡ x
 unfolding encode fits
-placed v its.Account at x r l m e h = there at 32 l x m e (eqb-true _ _ h)
+placed v its.Account at x r l m e h = there32 at l x m e (eqb-true _ _ h)
 placed v its.No at x r l m e h = refl
 placed v its.Slot at x r l m e h = refl
 placed v its.K at x r l m e h = refl
 placed v its.M at x r l m e h = refl
 placed v its.Text at x r l m e h = text-there at (textWidth v) l x m e
 placed v its.Amount at x r l m e h = refl
-placed v its.Hash at x r l m e h = there at 32 l x m e (eqb-true _ _ h)
+placed v its.Hash at x r l m e h = there32 at l x m e (eqb-true _ _ h)
 placed v its.Mode at x r l m e h = refl
 placed v its.Cap at x r l m e h = refl
 placed v its.From at x r l m e h = refl

@@ -4,7 +4,7 @@ use mathlib.Core.Bool.{Bool, true, false, cond}
 use mathlib.Core.List.{List, [], _∷_, _++_}
 use mathlib.Core.Option.{Option, none, some}
 use Prim.Native.Nat.{ℕ, _+_}
-use lib.ListN.{length, take, drop}
+use lib.ListN.{length, take, drop, replicate}
 use Rattle.amount.specs.declared.Cap.{Cap}
 use Rattle.amount.specs.declared.Cap.the-variants.{Unlimited}
 use Rattle.rules.specs.declared.Mode.{Mode}
@@ -62,15 +62,19 @@ readAt v l = readingOf v (parse v l)
 abbrev pub bytesAt : ℕ → ℕ → List ℕ → List ℕ
 bytesAt at n l = take n (drop at l)
 
+-- the 32 bytes from a place on, with zeros past the end
+abbrev pub padded32 : List ℕ → List ℕ
+padded32 l = take 32 (l ++ replicate 32 0)
+
 -- the account, the text and the hash of a record, out of the bytes that it was read from
 abbrev pub accountAt : Record → List ℕ → List ℕ
-accountAt r l = bytesAt (r .account) 32 l
+accountAt r l = padded32 (drop (r .account) l)
 
 abbrev pub textAt : Record → List ℕ → List ℕ
 textAt r l = bytesAt (r .text) (r .«text_len») l
 
 abbrev pub hashAt : Record → List ℕ → List ℕ
-hashAt r l = bytesAt (r .hash) 32 l
+hashAt r l = padded32 (drop (r .hash) l)
 
 -- a field's value
 abbrev pub valueAt : (v : Version) (f : Field) → Record → List ℕ → ValueOf (formatOf v f)

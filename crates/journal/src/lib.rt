@@ -4,10 +4,17 @@
 // kind has code of its own. The definitions are in specs/: Numbers and Fields (the parts of a record), Records (the table
 // and the calls it stands for), Places (what the reader answers), Journal (the frame), Theorems (what is proved of them).
 mod fields;
+mod frame;
 mod numbers;
+mod parts;
 mod records;
 mod table;
 
+pub use frame::next_record;
+pub use frame::start_fault;
+pub use parts::account_of;
+pub use parts::hash_of;
+pub use parts::text_of;
 pub use records::read_record;
 
 use amount::Cap;
@@ -15,6 +22,10 @@ use rules::Mode;
 
 // 27: a record that is cut or does not fit, an unknown kind, cap byte or mode.
 pub const RECORD: u32 = 27;
+
+// 24: a journal above 65,536 bytes. 28: a missing or other version byte.
+pub const TOO_LARGE: u32 = 24;
+pub const VERSION: u32 = 28;
 
 // The kinds of calls, 01 to 10 in the journal, in that order.
 pub enum Kind {
@@ -95,4 +106,11 @@ pub enum Step {
 pub enum Number {
     Value(u64),
     Cut,
+}
+
+// What stands next in a journal: nothing, a whole record with how many bytes it takes with its length, or a refusal's number.
+pub enum Next {
+    End,
+    Whole(Record, usize),
+    Stop(u32),
 }
