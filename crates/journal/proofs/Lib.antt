@@ -3,3 +3,4 @@ pub mod TableLaws
 pub mod StepLaws
 pub mod ReadLaws
 pub mod FrameLaws
+pub mod OverLaws

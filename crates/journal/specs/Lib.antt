@@ -8,4 +8,5 @@ pub mod Places
 pub mod PlaceLaws
 pub mod Table
 pub mod Journal
+pub mod Writes
 pub mod Theorems

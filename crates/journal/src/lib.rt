@@ -3,12 +3,13 @@
 // A record is a kind and the kind's list of fields. One table gives the lists; the reader and the writer go by it, so no
 // kind has code of its own. The definitions are in specs/: Numbers and Fields (the parts of a record), Records (the table
 // and the calls it stands for), Places (what the reader answers), Journal (the frame), Theorems (what is proved of them).
-mod fields;
+mod reader;
 mod frame;
 mod numbers;
 mod parts;
 mod records;
 mod table;
+mod write;
 
 pub use frame::next_record;
 pub use frame::start_fault;
@@ -16,6 +17,7 @@ pub use parts::account_of;
 pub use parts::hash_of;
 pub use parts::text_of;
 pub use records::read_record;
+pub use write::write_record;
 
 use amount::Cap;
 use rules::Mode;
@@ -113,4 +115,33 @@ pub enum Next {
     End,
     Whole(Record, usize),
     Stop(u32),
+}
+
+// A record to be written: its kind's number and its fields, of which those count that the kind has. The mode is a number.
+// The text is passed beside it.
+pub struct Fields {
+    pub kind: u8,
+    pub account: [u8; 32],
+    pub no: u32,
+    pub slot: u8,
+    pub k: u8,
+    pub m: u8,
+    pub amount: u64,
+    pub hash: [u8; 32],
+    pub mode: u8,
+    pub cap: Cap,
+    pub from: u64,
+    pub until: u64,
+}
+
+// What the writer answers: 0 and the length that it wrote, or a refusal's number and 0.
+pub struct Written {
+    pub number: u32,
+    pub len: usize,
+}
+
+// How many bytes a field or a record has, where the reader can give it.
+pub enum Size {
+    Bytes(usize),
+    Bad,
 }

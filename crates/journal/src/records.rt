@@ -11,7 +11,7 @@ use super::RECORD;
 use super::Reading;
 use super::Record;
 use super::Step;
-use super::fields::read_field;
+use super::reader::read_field;
 use super::table::field_count;
 use super::table::fields_of;
 use super::table::kind_named;

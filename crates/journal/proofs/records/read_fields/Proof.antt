@@ -19,7 +19,7 @@ use Rattle.journal.proofs.records.read_fields.Statement.{statement}
 use Rattle.journal.proofs.records.read_fields.Tie as tie
 use Rattle.journal.proofs.records.read_fields.Reads as reads
 use Rattle.journal.proofs.records.read_fields.Lts as lts
-use Rattle.journal.proofs.fields.read_field.Reads as read-field-reads
+use Rattle.journal.proofs.reader.read_field.Reads as read-field-reads
 use Rattle.journal.proofs.records.empty.Reads as empty-reads
 use Rattle.journal.proofs.table.field_count.Reads as field-count-reads
 use Rattle.journal.proofs.table.fields_of.Reads as fields-of-reads

@@ -1,9 +1,9 @@
 -- `store` meets its contract, field by field. Assumes nothing.
 use borrow.Author.Needs.{needs}
-use Rattle.journal.proofs.fields.store.Statement.{statement}
-use Rattle.journal.proofs.fields.store.Tie as tie
-use Rattle.journal.proofs.fields.store.Reads as reads
-use Rattle.journal.proofs.fields.store.Lts as lts
+use Rattle.journal.proofs.reader.store.Statement.{statement}
+use Rattle.journal.proofs.reader.store.Tie as tie
+use Rattle.journal.proofs.reader.store.Reads as reads
+use Rattle.journal.proofs.reader.store.Lts as lts
 
 enum-told : tie.Need-enum-told
 enum-told c = search needs

@@ -7,16 +7,16 @@ use lib.ListN.{length, take, drop, length-drop}
 use Rattle.journal.specs.declared.Field.the-variants as its
 use Rattle.journal.proofs.StepLaws.{number-field, none-step}
 use borrow.Author.Needs.{needs}
-use Rattle.journal.proofs.fields.read_field.Statement.{statement}
-use Rattle.journal.proofs.fields.read_field.Tie as tie
-use Rattle.journal.proofs.fields.read_field.Reads as reads
-use Rattle.journal.proofs.fields.read_field.Lts as lts
-use Rattle.journal.proofs.fields.read_account.Reads as read-account-reads
-use Rattle.journal.proofs.fields.read_cap.Reads as read-cap-reads
-use Rattle.journal.proofs.fields.read_hash.Reads as read-hash-reads
-use Rattle.journal.proofs.fields.read_mode.Reads as read-mode-reads
-use Rattle.journal.proofs.fields.read_number.Reads as read-number-reads
-use Rattle.journal.proofs.fields.read_text.Reads as read-text-reads
+use Rattle.journal.proofs.reader.read_field.Statement.{statement}
+use Rattle.journal.proofs.reader.read_field.Tie as tie
+use Rattle.journal.proofs.reader.read_field.Reads as reads
+use Rattle.journal.proofs.reader.read_field.Lts as lts
+use Rattle.journal.proofs.reader.read_account.Reads as read-account-reads
+use Rattle.journal.proofs.reader.read_cap.Reads as read-cap-reads
+use Rattle.journal.proofs.reader.read_hash.Reads as read-hash-reads
+use Rattle.journal.proofs.reader.read_mode.Reads as read-mode-reads
+use Rattle.journal.proofs.reader.read_number.Reads as read-number-reads
+use Rattle.journal.proofs.reader.read_text.Reads as read-text-reads
 
 enum-told : tie.Need-enum-told
 enum-told c = search needs

@@ -15,11 +15,11 @@ use Rattle.journal.specs.Places.{place}
 use Rattle.journal.specs.Records.{v01}
 use Rattle.journal.proofs.StepLaws.{valued, not-there, step-found, step-nothing, cap-cut, cap-at, length-unlimited, length-count}
 use borrow.Author.Needs.{needs}
-use Rattle.journal.proofs.fields.read_cap.Statement.{statement}
-use Rattle.journal.proofs.fields.read_cap.Tie as tie
-use Rattle.journal.proofs.fields.read_cap.Reads as reads
-use Rattle.journal.proofs.fields.read_cap.Lts as lts
-use Rattle.journal.proofs.fields.with_cap.Reads as with-cap-reads
+use Rattle.journal.proofs.reader.read_cap.Statement.{statement}
+use Rattle.journal.proofs.reader.read_cap.Tie as tie
+use Rattle.journal.proofs.reader.read_cap.Reads as reads
+use Rattle.journal.proofs.reader.read_cap.Lts as lts
+use Rattle.journal.proofs.reader.with_cap.Reads as with-cap-reads
 use Rattle.journal.proofs.numbers.number_at.Reads as number-at-reads
 
 number-at-requires : tie.Need-number-at-requires

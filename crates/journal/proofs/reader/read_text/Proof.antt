@@ -6,10 +6,10 @@ use lib.ListN.{length, take, drop, length-drop}
 use Rattle.journal.specs.declared.Field.the-variants as its
 use Rattle.journal.proofs.StepLaws.{Valued, valued, not-there, step-nothing, step-text, text-cut, text-long, text-short}
 use borrow.Author.Needs.{needs}
-use Rattle.journal.proofs.fields.read_text.Statement.{statement}
-use Rattle.journal.proofs.fields.read_text.Tie as tie
-use Rattle.journal.proofs.fields.read_text.Reads as reads
-use Rattle.journal.proofs.fields.read_text.Lts as lts
+use Rattle.journal.proofs.reader.read_text.Statement.{statement}
+use Rattle.journal.proofs.reader.read_text.Tie as tie
+use Rattle.journal.proofs.reader.read_text.Reads as reads
+use Rattle.journal.proofs.reader.read_text.Lts as lts
 use Rattle.journal.proofs.numbers.number_at.Reads as number-at-reads
 
 number-at-requires : tie.Need-number-at-requires

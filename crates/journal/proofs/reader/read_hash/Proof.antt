@@ -8,10 +8,10 @@ use Rattle.journal.specs.declared.Field.the-variants as its
 use Rattle.journal.specs.Fields.{decode, encode}
 use Rattle.journal.proofs.StepLaws.{step-found, step-nothing, part-none, part-some}
 use borrow.Author.Needs.{needs}
-use Rattle.journal.proofs.fields.read_hash.Statement.{statement}
-use Rattle.journal.proofs.fields.read_hash.Tie as tie
-use Rattle.journal.proofs.fields.read_hash.Reads as reads
-use Rattle.journal.proofs.fields.read_hash.Lts as lts
+use Rattle.journal.proofs.reader.read_hash.Statement.{statement}
+use Rattle.journal.proofs.reader.read_hash.Tie as tie
+use Rattle.journal.proofs.reader.read_hash.Reads as reads
+use Rattle.journal.proofs.reader.read_hash.Lts as lts
 
 sub-if1 : tie.Need-sub-if1
 sub-if1 c = search needs

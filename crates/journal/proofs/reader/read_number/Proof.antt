@@ -13,12 +13,12 @@ use Rattle.journal.specs.Table.{widthOf, placeNumber, stepNumber}
 use Rattle.journal.proofs.ByteLaws.{bytes-known}
 use Rattle.journal.proofs.StepLaws.{valued, valued-lt, not-there}
 use borrow.Author.Needs.{needs}
-use Rattle.journal.proofs.fields.read_number.Statement.{statement}
-use Rattle.journal.proofs.fields.read_number.Tie as tie
-use Rattle.journal.proofs.fields.read_number.Reads as reads
-use Rattle.journal.proofs.fields.read_number.Lts as lts
-use Rattle.journal.proofs.fields.store.Reads as store-reads
-use Rattle.journal.proofs.fields.width.Reads as width-reads
+use Rattle.journal.proofs.reader.read_number.Statement.{statement}
+use Rattle.journal.proofs.reader.read_number.Tie as tie
+use Rattle.journal.proofs.reader.read_number.Reads as reads
+use Rattle.journal.proofs.reader.read_number.Lts as lts
+use Rattle.journal.proofs.reader.store.Reads as store-reads
+use Rattle.journal.proofs.reader.width.Reads as width-reads
 use Rattle.journal.proofs.numbers.number_at.Reads as number-at-reads
 
 width-requires : tie.Need-width-requires

@@ -11,11 +11,11 @@ use Rattle.journal.specs.declared.Record.{Record}
 use Rattle.journal.specs.Fields.{decode, mode, found, nothing}
 use Rattle.journal.proofs.StepLaws.{valued, not-there, step-found, step-nothing, mode-cut, mode-at, length-mode}
 use borrow.Author.Needs.{needs}
-use Rattle.journal.proofs.fields.read_mode.Statement.{statement}
-use Rattle.journal.proofs.fields.read_mode.Tie as tie
-use Rattle.journal.proofs.fields.read_mode.Reads as reads
-use Rattle.journal.proofs.fields.read_mode.Lts as lts
-use Rattle.journal.proofs.fields.with_mode.Reads as with-mode-reads
+use Rattle.journal.proofs.reader.read_mode.Statement.{statement}
+use Rattle.journal.proofs.reader.read_mode.Tie as tie
+use Rattle.journal.proofs.reader.read_mode.Reads as reads
+use Rattle.journal.proofs.reader.read_mode.Lts as lts
+use Rattle.journal.proofs.reader.with_mode.Reads as with-mode-reads
 use Rattle.journal.proofs.numbers.number_at.Reads as number-at-reads
 
 number-at-requires : tie.Need-number-at-requires
