@@ -4,3 +4,4 @@ pub mod StepLaws
 pub mod ReadLaws
 pub mod FrameLaws
 pub mod OverLaws
+pub mod SizeLaws

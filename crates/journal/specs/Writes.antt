@@ -3,7 +3,7 @@
 use mathlib.Core.Bool.{Bool, true, false, _&&_, cond}
 use mathlib.Core.List.{List, [], _∷_, _++_}
 use mathlib.Core.Option.{Option, none, some}
-use Prim.Native.Nat.{ℕ, _+_}
+use Prim.Native.Nat.{ℕ, _+_, _≤_}
 use lib.Dec.{eqb, leb}
 use lib.ListN.{length, take, drop}
 use Rattle.rules.specs.declared.Mode.{Mode}
@@ -15,6 +15,8 @@ use Rattle.journal.specs.declared.Field.{Field}
 use Rattle.journal.specs.declared.Field.the-variants as its
 use Rattle.journal.specs.declared.Fields.{Fields}
 use Rattle.journal.specs.declared.Written.{Written}
+use Rattle.journal.specs.declared.Size.{Size}
+use Rattle.journal.specs.declared.Size.the-variants.{Bytes, Bad}
 use Rattle.journal.specs.Fields.{text, ValueOf, ValuesOf, encode}
 use Rattle.journal.specs.Records.{Version, textMost, formatOf, formsOf, fieldsOf, kindNumbered, Values, callOf, recordBytes}
 
@@ -87,3 +89,26 @@ answerOf (some b) room = cond (leb (length b) room) (record { number = 0; len = 
 abbrev pub bufferOf : Option (List ℕ) → List ℕ → List ℕ
 bufferOf none buf = buf
 bufferOf (some b) buf = cond (leb (length b) (length buf)) (over 0 b buf) buf
+
+-- ---- as the code writes a record, field by field
+
+-- the bytes of one field, and of a list of them
+unfoldable pub fieldBytes : Version → Field → Fields → List ℕ → List ℕ
+fieldBytes v f d t = encode (formatOf v f) (valueIn v f d t)
+
+unfoldable pub fieldsBytes : Version → List Field → Fields → List ℕ → List ℕ
+fieldsBytes v [] d t = []
+fieldsBytes v (f ∷ fs) d t = fieldBytes v f d t ++ fieldsBytes v fs d t
+
+-- how many bytes they have, if the reader can give them
+unfoldable pub fieldSize : Version → Field → Fields → List ℕ → Size
+fieldSize v f d t = cond (givable v f d t) (Bytes (length (fieldBytes v f d t))) Bad
+
+-- the same of a list of fields, after n bytes
+unfoldable pub fieldsSize : Version → ℕ → List Field → Fields → List ℕ → Size
+fieldsSize v n fs d t = cond (givableAll v fs d t) (Bytes (n + length (fieldsBytes v fs d t))) Bad
+
+-- no field has more than 256 bytes
+abbrev pub small : Size → Type 0
+small (Bytes k) = k ≤ 256
+small Bad = Unit {0}

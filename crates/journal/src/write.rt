@@ -1,9 +1,90 @@
-// The record writer.
+// The record writer: the record is measured, then written field by field.
 ghost use mathlib.Core.Path.{_≡_};
-ghost use Rattle.journal.specs.Records.{v01};
+ghost use mathlib.Core.Bool.{true};
+ghost use Prim.Native.Nat.{_+_, _≤_};
+ghost use lib.ListN.{length};
+ghost use Rattle.journal.specs.Numbers.{bytesOf};
+ghost use Rattle.journal.specs.Fields.{capBytes};
+ghost use Rattle.journal.specs.Records.{v01, fieldsOf};
+ghost use Rattle.journal.specs.Writes.{over, recordIn, answerOf, bufferOf, fieldBytes, fieldsBytes, givableAll, fieldSize, fieldsSize, small};
+use super::Field;
 use super::Fields;
+use super::Kind;
+use super::Named;
+use super::Size;
 use super::Written;
+use super::numbers::put_bytes;
+use super::numbers::put_number;
+use super::reader::TEXT_MOST;
+use super::reader::TEXT_WIDTH;
+use super::table::field_count;
+use super::table::fields_of;
+use super::table::kind_named;
+use amount::Cap;
 use rules::numbers::BAD;
+use rules::numbers::ROOM;
+
+fn cap_size(cap: Cap) -> usize
+    ensures { λ r. ⌜ (r ≡ length (capBytes cap)) × (r ≤ 9) ⌝ }
+{
+    match cap {
+        Cap::Unlimited => 1,
+        Cap::Bytes(_) => 9,
+    }
+}
+
+// How many bytes a field takes, or that the reader cannot give it.
+fn field_size(f: Field, d: Fields, text: &[u8]) -> Size
+    ensures { λ r. ⌜ (r ≡ fieldSize v01 f d (now (text .entry))) × small r ⌝ }
+{
+    match f {
+        Field::Account => Size::Bytes(32),
+        Field::No => Size::Bytes(4),
+        Field::Slot => Size::Bytes(1),
+        Field::K => Size::Bytes(1),
+        Field::M => Size::Bytes(1),
+        Field::Text => {
+            if TEXT_MOST < text.len() as u64 {
+                return Size::Bad;
+            }
+            Size::Bytes(TEXT_WIDTH + text.len())
+        }
+        Field::Amount => Size::Bytes(8),
+        Field::Hash => Size::Bytes(32),
+        Field::Mode => {
+            if 2 < d.mode {
+                return Size::Bad;
+            }
+            Size::Bytes(1)
+        }
+        Field::Cap => {
+            let cap = d.cap;
+            Size::Bytes(cap_size(cap))
+        }
+        Field::From => Size::Bytes(8),
+        Field::Until => Size::Bytes(8),
+        Field::None => Size::Bytes(0),
+    }
+}
+
+// How many bytes the kind's fields take.
+fn measure(kind: Kind, d: Fields, text: &[u8]) -> Size
+    ensures { λ r. ⌜ r ≡ fieldsSize v01 0 (fieldsOf v01 kind) d (now (text .entry)) ⌝ }
+{
+    let fields = fields_of(kind);
+    let count = field_count(kind);
+    let mut n: usize = 0;
+    let mut i: usize = 0;
+    while i < count {
+        let f = fields[i];
+        let Size::Bytes(k) = field_size(f, d, text) else {
+            return Size::Bad;
+        };
+        n += k;
+        i += 1;
+    }
+    Size::Bytes(n)
+}
 
 pub fn write_record(d: Fields, text: &[u8], out: &mut [u8]) -> Written {
     Written {
