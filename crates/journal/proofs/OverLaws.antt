@@ -61,3 +61,7 @@ number-turn at j n buf h =
 -- a whole copy
 pub over-paste : (at : ℕ) (s buf : List ℕ) → paste buf at s (length s) ≡ over at s buf
 over-paste at s buf = ap (λ (m : List ℕ). take at buf ++ m ++ drop (at + length s) buf) (take-length s)
+
+-- two pieces, the first of w bytes
+pub over-pair : (at w : ℕ) (a b buf : List ℕ) → length a ≡ w → at + w ≤ length buf → over (at + w) b (over at a buf) ≡ over at (a ++ b) buf
+over-pair at w a b buf e h = ap (λ (k : ℕ). over (at + k) b (over at a buf)) (sym e) ∙ over-over at a b buf (rw e h)

@@ -8,6 +8,7 @@ use lib.Dec.{leb, eqb}
 use lib.ListN.{length, take, drop, getD, length-append}
 use lib.Seq.{take-at, drop-cons, getD-take, length-take-le}
 use borrow.Author.Tests.{le-leb, lt-leb, eq-eqb, ne-eqb}
+use Rattle.amount.specs.declared.Cap.the-variants.{Unlimited, Bytes as Count}
 use Rattle.rules.specs.declared.Mode.{Mode}
 use Rattle.rules.specs.declared.Mode.the-variants as right
 use Rattle.rules.specs.Scope.{modeNumber}
@@ -135,3 +136,10 @@ size-stop f fs d t n e = go (givable v01 f d t) refl e
 pub size-end : (d : Fields) (t : List ℕ) (n : ℕ) → fieldsSize v01 n [] d t ≡ Bytes n
 unfolding fieldsSize givableAll fieldsBytes
 size-end d t n = let z : n + 0 ≡ n = omega arith in ap Bytes z
+
+-- how long a cap's bytes are
+pub unlimited-length : length (capBytes Unlimited) ≡ 1
+unlimited-length = length-bytesOf 1 0
+
+pub count-length : (n : ℕ) → length (capBytes (Count n)) ≡ 9
+count-length n = length-append (bytesOf 1 1) (bytesOf 8 n) ∙ rw (length-bytesOf 1 1, length-bytesOf 8 n)

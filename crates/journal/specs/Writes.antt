@@ -17,6 +17,7 @@ use Rattle.journal.specs.declared.Fields.{Fields}
 use Rattle.journal.specs.declared.Written.{Written}
 use Rattle.journal.specs.declared.Size.{Size}
 use Rattle.journal.specs.declared.Size.the-variants.{Bytes, Bad}
+use Rattle.journal.specs.Numbers.{bytesOf}
 use Rattle.journal.specs.Fields.{text, ValueOf, ValuesOf, encode}
 use Rattle.journal.specs.Records.{Version, textMost, formatOf, formsOf, fieldsOf, kindNumbered, Values, callOf, recordBytes}
 
@@ -91,6 +92,9 @@ bufferOf none buf = buf
 bufferOf (some b) buf = cond (leb (length b) (length buf)) (over 0 b buf) buf
 
 -- ---- as the code writes a record, field by field
+
+abbrev pub textBytes : List ℕ → List ℕ
+textBytes t = bytesOf 1 (length t) ++ t
 
 -- the bytes of one field, and of a list of them
 unfoldable pub fieldBytes : Version → Field → Fields → List ℕ → List ℕ

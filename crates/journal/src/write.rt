@@ -6,7 +6,7 @@ ghost use lib.ListN.{length};
 ghost use Rattle.journal.specs.Numbers.{bytesOf};
 ghost use Rattle.journal.specs.Fields.{capBytes};
 ghost use Rattle.journal.specs.Records.{v01, fieldsOf};
-ghost use Rattle.journal.specs.Writes.{over, recordIn, answerOf, bufferOf, fieldBytes, fieldsBytes, givableAll, fieldSize, fieldsSize, small};
+ghost use Rattle.journal.specs.Writes.{over, textBytes, recordIn, answerOf, bufferOf, fieldBytes, fieldsBytes, givableAll, fieldSize, fieldsSize, small};
 use super::Field;
 use super::Fields;
 use super::Kind;
@@ -84,6 +84,45 @@ fn measure(kind: Kind, d: Fields, text: &[u8]) -> Size
         i += 1;
     }
     Size::Bytes(n)
+}
+
+fn put_value(out: &mut [u8], at: usize, w: usize, n: u64) -> usize
+    requires { ⌜ at + w ≤ length (now out) ⌝ }
+    ensures { λ r. ⌜ (r ≡ at + w) × (now (out .exit) ≡ over at (bytesOf w n) (now (out .entry))) ⌝ }
+{
+    put_number(out, at, w, n);
+    at + w
+}
+
+fn put_block(out: &mut [u8], at: usize, b: &[u8; 32]) -> usize
+    requires { ⌜ at + 32 ≤ length (now out) ⌝ }
+    ensures { λ r. ⌜ (r ≡ at + 32) × (now (out .exit) ≡ over at (now (b .entry)) (now (out .entry))) ⌝ }
+{
+    put_bytes(out, at, b);
+    at + 32
+}
+
+fn put_text(out: &mut [u8], at: usize, text: &[u8]) -> usize
+    requires { ⌜ at + (1 + length (now text)) ≤ length (now out) ⌝ }
+    ensures { λ r. ⌜ (r ≡ at + (1 + length (now (text .entry)))) × (now (out .exit) ≡ over at (textBytes (now (text .entry))) (now (out .entry))) ⌝ }
+{
+    put_number(out, at, TEXT_WIDTH, text.len() as u64);
+    let next = at + TEXT_WIDTH;
+    put_bytes(out, next, text);
+    next + text.len()
+}
+
+fn put_cap(out: &mut [u8], at: usize, cap: Cap) -> usize
+    requires { ⌜ at + length (capBytes cap) ≤ length (now out) ⌝ }
+    ensures { λ r. ⌜ (r ≡ at + length (capBytes cap)) × (now (out .exit) ≡ over at (capBytes cap) (now (out .entry))) ⌝ }
+{
+    match cap {
+        Cap::Unlimited => put_value(out, at, 1, 0),
+        Cap::Bytes(n) => {
+            let next = put_value(out, at, 1, 1);
+            put_value(out, next, 8, n)
+        }
+    }
 }
 
 pub fn write_record(d: Fields, text: &[u8], out: &mut [u8]) -> Written {
