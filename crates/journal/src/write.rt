@@ -6,7 +6,7 @@ ghost use lib.ListN.{length};
 ghost use Rattle.journal.specs.Numbers.{bytesOf};
 ghost use Rattle.journal.specs.Fields.{capBytes};
 ghost use Rattle.journal.specs.Records.{v01, fieldsOf};
-ghost use Rattle.journal.specs.Writes.{over, textBytes, recordIn, answerOf, bufferOf, fieldBytes, fieldsBytes, givableAll, fieldSize, fieldsSize, small};
+ghost use Rattle.journal.specs.Writes.{over, textBytes, recordIn, answerOf, bufferOf, fieldBytes, fieldsBytes, givable, givableAll, fieldSize, fieldsSize, small};
 use super::Field;
 use super::Fields;
 use super::Kind;
@@ -122,6 +122,31 @@ fn put_cap(out: &mut [u8], at: usize, cap: Cap) -> usize
             let next = put_value(out, at, 1, 1);
             put_value(out, next, 8, n)
         }
+    }
+}
+
+// One field at its place; the place after it.
+fn put_field(out: &mut [u8], at: usize, f: Field, d: Fields, text: &[u8]) -> usize
+    requires { ⌜ (at + length (fieldBytes v01 f d (now text)) ≤ length (now out)) × (givable v01 f d (now text) ≡ true) ⌝ }
+    ensures { λ r. ⌜ (r ≡ at + length (fieldBytes v01 f d (now (text .entry)))) × (now (out .exit) ≡ over at (fieldBytes v01 f d (now (text .entry))) (now (out .entry))) ⌝ }
+{
+    let account = d.account;
+    let hash = d.hash;
+    let cap = d.cap;
+    match f {
+        Field::Account => put_block(out, at, &account),
+        Field::No => put_value(out, at, 4, d.no as u64),
+        Field::Slot => put_value(out, at, 1, d.slot as u64),
+        Field::K => put_value(out, at, 1, d.k as u64),
+        Field::M => put_value(out, at, 1, d.m as u64),
+        Field::Text => put_text(out, at, text),
+        Field::Amount => put_value(out, at, 8, d.amount),
+        Field::Hash => put_block(out, at, &hash),
+        Field::Mode => put_value(out, at, 1, d.mode as u64),
+        Field::Cap => put_cap(out, at, cap),
+        Field::From => put_value(out, at, 8, d.from),
+        Field::Until => put_value(out, at, 8, d.until),
+        Field::None => at,
     }
 }
 
