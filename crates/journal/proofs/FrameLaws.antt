@@ -79,7 +79,7 @@ pub fewer32 : (l : List ℕ) → length l ≤ 32 → paste (replicate 32 0) 0 l 
 unfolding zeros
 fewer32 l h =
     let p : drop (0 + length l) (zeros 32) ≡ take (32 - length l) (zeros 32) =
-        ap (λ (k : ℕ). drop k (zeros 32)) (zero-add (length l)) ∙ drop-zeros (length l) 32 ∙ sym (take-zeros (32 - length l) 32 (omega arith)) in
+    ap (λ (k : ℕ). drop k (zeros 32)) (zero-add (length l)) ∙ drop-zeros (length l) 32 ∙ sym (take-zeros (32 - length l) 32 (omega arith)) in
     ap (λ (m : List ℕ). take (length l) l ++ m) p ∙ ap (λ (m : List ℕ). m ++ take (32 - length l) (zeros 32)) (take-length l) ∙ sym (fewer l (zeros 32) 32 h)
 
 -- past the end there are only zeros

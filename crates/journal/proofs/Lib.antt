@@ -5,3 +5,4 @@ pub mod ReadLaws
 pub mod FrameLaws
 pub mod OverLaws
 pub mod SizeLaws
+pub mod WriteLaws

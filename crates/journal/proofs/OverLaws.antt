@@ -22,7 +22,7 @@ over-last at b x buf h =
     let p = at + length b in
     let t : take at (set buf p x) ≡ take at buf = take-set-le at buf p x (omega arith) in
     let d : drop p (set buf p x) ≡ x ∷ drop (suc p) buf =
-        ap (drop p) (set-split buf p x h) ∙ drop-at (take p buf) (x ∷ drop (suc p) buf) p (length-take-le p buf (omega arith)) in
+    ap (drop p) (set-split buf p x h) ∙ drop-at (take p buf) (x ∷ drop (suc p) buf) p (length-take-le p buf (omega arith)) in
     let n : at + length (b ++ (x ∷ [])) ≡ suc p = omega (arith, length-append b (x ∷ [])) in
     ap (λ (m : List ℕ). m ++ b ++ drop p (set buf p x)) t ∙ ap (λ (m : List ℕ). take at buf ++ b ++ m) d ∙ sym (append-snoc (take at buf ++ b) x (drop (suc p) buf))
     ∙ ap (λ (m : List ℕ). m ++ drop (suc p) buf) (append-assoc (take at buf) b (x ∷ []))
@@ -45,7 +45,7 @@ over-over at a b buf h =
     let l : length (take at buf ++ a) ≡ p = head-length at a buf (omega arith) in
     let t : take p w ≡ take at buf ++ a = take-at (take at buf ++ a) (drop p buf) p l in
     let d : drop (p + length b) w ≡ drop (p + length b) buf =
-        sym (drop-drop (length b) p w) ∙ ap (drop (length b)) (drop-at (take at buf ++ a) (drop p buf) p l) ∙ drop-drop (length b) p buf in
+    sym (drop-drop (length b) p w) ∙ ap (drop (length b)) (drop-at (take at buf ++ a) (drop p buf) p l) ∙ drop-drop (length b) p buf in
     let n : p + length b ≡ at + length (a ++ b) = omega (arith, length-append a b) in
     ap (λ (m : List ℕ). m ++ b ++ drop (p + length b) w) t ∙ ap (λ (m : List ℕ). take at buf ++ a ++ b ++ m) d
     ∙ ap (λ (m : List ℕ). m ++ drop (p + length b) buf) (append-assoc (take at buf) a b) ∙ ap (λ (k : ℕ). take at buf ++ (a ++ b) ++ drop k buf) n

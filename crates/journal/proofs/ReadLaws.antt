@@ -45,12 +45,12 @@ found-passed v f fs at r l x rest h k e =
     let n = at + length (encode (formatOf v f) x) in
     let d : drop n l ≡ rest = past at l (encode (formatOf v f) x) rest (sym (t .whole)) in
     let go : (d : Decoded (ValueOf (formatOf v f))) → Decoded (ValuesOf (formsOf v (f ∷ fs))) =
-        λ d. onFound (λ a more. onFound (inFront a) (decodeAll (formsOf v fs) more)) d in
+    λ d. onFound (λ a more. onFound (inFront a) (decodeAll (formsOf v fs) more)) d in
     record {
       same =
-      ap (λ (d : Decoded (ValueOf (formatOf v f))). ending v (f ∷ fs) at r (go d)) e ∙ front v f fs at r x (decodeAll (formsOf v fs) rest)
-      ∙ ap (λ (m : List ℕ). ending v fs n (place v f at x r) (decodeAll (formsOf v fs) m)) (sym d);
-      within = omega (arith, ap length (t .whole), length-append (encode (formatOf v f) x) rest, length-drop at l)
+          ap (λ (d : Decoded (ValueOf (formatOf v f))). ending v (f ∷ fs) at r (go d)) e ∙ front v f fs at r x (decodeAll (formsOf v fs) rest)
+          ∙ ap (λ (m : List ℕ). ending v fs n (place v f at x r) (decodeAll (formsOf v fs) m)) (sym d);
+      within = omega (arith, ap length (t .whole), length-append (encode (formatOf v f) x) rest, length-drop at l);
     }
 
 pub passed : (v : Version) (f : Field) (fs : List Field) (at : ℕ) (r : Record) (l : List ℕ) (q : Record) (next : ℕ) → areBytes l ≡ true → at ≤ length l
@@ -102,11 +102,11 @@ read-unknown : (b : ℕ) (l : List ℕ) → kindAmong b (kinds v01) ≡ none →
 unfolding readAt parse
 read-unknown b l e = ap (λ (o : Option Kind). readingOf v01 (parseKind v01 o l)) e
 
-named-kind : (o : Option Kind) (k : Kind) → a.Kind k ≡ namedBy o → o ≡ some k
+pub named-kind : (o : Option Kind) (k : Kind) → a.Kind k ≡ namedBy o → o ≡ some k
 named-kind none k e = cc
 named-kind (some j) k e = let z : k ≡ j = cc in ap some (sym z)
 
-named-none : (o : Option Kind) → a.Unknown ≡ namedBy o → o ≡ none
+pub named-none : (o : Option Kind) → a.Unknown ≡ namedBy o → o ≡ none
 named-none none e = refl
 named-none (some j) e = cc
 

@@ -121,7 +121,7 @@ unfolding fieldSize fieldsSize givableAll fieldsBytes
 size-more f fs d t n k e =
     let p = size-inv f d t (givable v01 f d t) k e in
     let z : n + length (fieldBytes v01 f d t ++ fieldsBytes v01 fs d t) ≡ n + k + length (fieldsBytes v01 fs d t) =
-        omega (arith, length-append (fieldBytes v01 f d t) (fieldsBytes v01 fs d t), p .1) in
+    omega (arith, length-append (fieldBytes v01 f d t) (fieldsBytes v01 fs d t), p .1) in
     rw (p .0, z)
 
 pub size-stop : (f : Field) (fs : List Field) (d : Fields) (t : List ℕ) (n : ℕ) → fieldSize v01 f d t ≡ Bad → fieldsSize v01 n (f ∷ fs) d t ≡ Bad

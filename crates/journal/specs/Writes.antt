@@ -116,3 +116,8 @@ fieldsSize v n fs d t = cond (givableAll v fs d t) (Bytes (n + length (fieldsByt
 abbrev pub small : Size → Type 0
 small (Bytes k) = k ≤ 256
 small Bad = Unit {0}
+
+-- no record's fields have more than 1,792 bytes
+abbrev pub sized : Size → Type 0
+sized (Bytes n) = n ≤ 1792
+sized Bad = Unit {0}

@@ -3,30 +3,30 @@
 // A record is a kind and the kind's list of fields. One table gives the lists; the reader and the writer go by it, so no
 // kind has code of its own. The definitions are in specs/: Numbers and Fields (the parts of a record), Records (the table
 // and the calls it stands for), Places (what the reader answers), Journal (the frame), Theorems (what is proved of them).
-mod reader;
 mod frame;
 mod numbers;
 mod parts;
+mod reader;
 mod records;
 mod table;
 mod write;
 
+use amount::Cap;
 pub use frame::next_record;
 pub use frame::start_fault;
 pub use parts::account_of;
 pub use parts::hash_of;
 pub use parts::text_of;
 pub use records::read_record;
-pub use write::write_record;
-
-use amount::Cap;
 use rules::Mode;
+pub use write::write_record;
 
 // 27: a record that is cut or does not fit, an unknown kind, cap byte or mode.
 pub const RECORD: u32 = 27;
 
 // 24: a journal above 65,536 bytes. 28: a missing or other version byte.
 pub const TOO_LARGE: u32 = 24;
+
 pub const VERSION: u32 = 28;
 
 // The kinds of calls, 01 to 10 in the journal, in that order.

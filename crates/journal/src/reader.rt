@@ -16,6 +16,7 @@ use rules::Mode;
 
 // A text has at most so many bytes, after a length of so many.
 pub(crate) const TEXT_MOST: u64 = 255;
+
 pub(crate) const TEXT_WIDTH: usize = 1;
 
 // How many bytes a field has that is a number, and 0 for the others.

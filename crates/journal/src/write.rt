@@ -6,7 +6,7 @@ ghost use lib.ListN.{length};
 ghost use Rattle.journal.specs.Numbers.{bytesOf};
 ghost use Rattle.journal.specs.Fields.{capBytes};
 ghost use Rattle.journal.specs.Records.{v01, fieldsOf};
-ghost use Rattle.journal.specs.Writes.{over, textBytes, recordIn, answerOf, bufferOf, fieldBytes, fieldsBytes, givable, givableAll, fieldSize, fieldsSize, small};
+ghost use Rattle.journal.specs.Writes.{over, textBytes, recordIn, answerOf, bufferOf, fieldBytes, fieldsBytes, givable, givableAll, fieldSize, fieldsSize, small, sized};
 use super::Field;
 use super::Fields;
 use super::Kind;
@@ -69,7 +69,7 @@ fn field_size(f: Field, d: Fields, text: &[u8]) -> Size
 
 // How many bytes the kind's fields take.
 fn measure(kind: Kind, d: Fields, text: &[u8]) -> Size
-    ensures { λ r. ⌜ r ≡ fieldsSize v01 0 (fieldsOf v01 kind) d (now (text .entry)) ⌝ }
+    ensures { λ r. ⌜ (r ≡ fieldsSize v01 0 (fieldsOf v01 kind) d (now (text .entry))) × sized r ⌝ }
 {
     let fields = fields_of(kind);
     let count = field_count(kind);
@@ -150,9 +150,47 @@ fn put_field(out: &mut [u8], at: usize, f: Field, d: Fields, text: &[u8]) -> usi
     }
 }
 
-pub fn write_record(d: Fields, text: &[u8], out: &mut [u8]) -> Written {
-    Written {
-        number: BAD,
-        len: 0,
+// The kind's fields, one after another from a place on.
+fn put_fields(out: &mut [u8], start: usize, kind: Kind, d: Fields, text: &[u8])
+    requires { ⌜ (start + length (fieldsBytes v01 (fieldsOf v01 kind) d (now text)) ≤ length (now out)) × (givableAll v01 (fieldsOf v01 kind) d (now text) ≡ true) ⌝ }
+    ensures { λ _. ⌜ now (out .exit) ≡ over start (fieldsBytes v01 (fieldsOf v01 kind) d (now (text .entry))) (now (out .entry)) ⌝ }
+{
+    let fields = fields_of(kind);
+    let count = field_count(kind);
+    let mut at = start;
+    let mut i: usize = 0;
+    while i < count {
+        let f = fields[i];
+        at = put_field(out, at, f, d, text);
+        i += 1;
     }
+}
+
+// The record with its length before it, at the front of the buffer; the bytes after it stay, and a refusal writes nothing.
+pub fn write_record(d: Fields, text: &[u8], out: &mut [u8]) -> Written
+    ensures { λ r. ⌜ (r ≡ answerOf (recordIn v01 d (now (text .entry))) (length (now (out .entry)))) × (now (out .exit) ≡ bufferOf (recordIn v01 d (now (text .entry))) (now (out .entry))) ⌝ }
+{
+    let Named::Kind(kind) = kind_named(d.kind) else {
+        return Written {
+            number: BAD,
+            len: 0,
+        };
+    };
+    let Size::Bytes(n) = measure(kind, d, text) else {
+        return Written {
+            number: BAD,
+            len: 0,
+        };
+    };
+    let len = n + 3;
+    if out.len() < len {
+        return Written {
+            number: ROOM,
+            len: 0,
+        };
+    }
+    put_number(out, 0, 2, (n + 1) as u64);
+    put_number(out, 2, 1, d.kind as u64);
+    put_fields(out, 3, kind, d, text);
+    Written { number: 0, len }
 }

@@ -35,17 +35,17 @@ enum-told : tie.Need-enum-told
 enum-told c = search needs
 
 returns-2 : tie.Need-returns-2
-returns-2 c = 
+returns-2 c =
     let l = c .before .before .before .before .before .args .rest .now in
     sym (next-frame l (c .before .before .before .if1 .left) ∙ ap (onBody v01) (text-cut 2 65535 l (not-there 2 l (sym (c .enum-told .given .1) ∙ c .before .before .number-at .ensures))))
 
 sub-if2 : tie.Need-sub-if2
-sub-if2 c = 
+sub-if2 c =
     let l = c .before .before .before .before .before .before .args .rest .now in
     (valued 2 l (c .before .n .given .0 .0) (sym (c .before .n .given .1) ∙ c .before .before .before .number-at .ensures)) .room
 
 returns-3 : tie.Need-returns-3
-returns-3 c = 
+returns-3 c =
     let l = c .before .before .before .before .before .before .before .args .rest .now in
     let n = c .before .before .n .given .0 .0 in
     let v = valued 2 l (c .before .before .n .given .0 .0) (sym (c .before .before .n .given .1) ∙ c .before .before .before .before .number-at .ensures) in
@@ -64,7 +64,7 @@ part-read-record-start : tie.Need-part-read-record-start
 part-read-record-start c = search needs
 
 part-read-record-end : tie.Need-part-read-record-end
-part-read-record-end c = 
+part-read-record-end c =
     let l = c .before .before .before .before .before .before .before .args .rest .now in
     let v = valued 2 l (c .before .before .n .given .0 .0) (sym (c .before .before .n .given .1) ∙ c .before .before .before .before .number-at .ensures) in
     omega (arith, v .room)
@@ -79,7 +79,7 @@ enum-known-number : tie.Need-enum-known-number
 enum-known-number c = search needs
 
 returns-4 : tie.Need-returns-4
-returns-4 c = 
+returns-4 c =
     let l = c .before .before .before .before .before .before .before .before .before .before .before .before .args .rest .now in
     let n = c .before .before .before .before .before .before .before .n .given .0 .0 in
     let v = valued 2 l (c .before .before .before .before .before .before .before .n .given .0 .0) (sym (c .before .before .before .before .before .before .before .n .given .1) ∙ c .before .before .before .before .before .before .before .before .before .number-at .ensures) in
@@ -91,11 +91,11 @@ returns-4 c =
     let e : length b ≡ n = length-take-le n (drop 2 l) s in
     let r = c .before .r .given .0 .0 in
     let q : readAt v01 b ≡ Rattle.journal.specs.declared.Reading.the-variants.Fits r =
-        ap (λ (k : ℕ). readAt v01 (take k (drop 2 l))) (sym z) ∙ sym (c .before .before .before .read-record .ensures) ∙ c .before .r .given .1 in
+    ap (λ (k : ℕ). readAt v01 (take k (drop 2 l))) (sym z) ∙ sym (c .before .before .before .read-record .ensures) ∙ c .before .r .given .1 in
     sym (next-frame l (c .before .before .before .before .before .before .before .before .before .before .if1 .left) ∙ ap (onBody v01) (text-full 2 65535 l n v m s) ∙ ap (onReading b) q ∙ ap (λ (k : ℕ). Whole r (2 + k)) e)
 
 returns-5 : tie.Need-returns-5
-returns-5 c = 
+returns-5 c =
     let l = c .before .before .before .before .before .before .before .before .before .before .before .before .args .rest .now in
     let n = c .before .before .before .before .before .before .before .n .given .0 .0 in
     let v = valued 2 l (c .before .before .before .before .before .before .before .n .given .0 .0) (sym (c .before .before .before .before .before .before .before .n .given .1) ∙ c .before .before .before .before .before .before .before .before .before .number-at .ensures) in
@@ -105,7 +105,7 @@ returns-5 c =
     let b = take n (drop 2 l) in
     let z : 2 + n - 2 ≡ n = omega arith in
     let q : readAt v01 b ≡ Rattle.journal.specs.declared.Reading.the-variants.Refused (c .before .number .given .0 .0) =
-        ap (λ (k : ℕ). readAt v01 (take k (drop 2 l))) (sym z) ∙ sym (c .before .before .before .read-record .ensures) ∙ c .before .number .given .1 in
+    ap (λ (k : ℕ). readAt v01 (take k (drop 2 l))) (sym z) ∙ sym (c .before .before .before .read-record .ensures) ∙ c .before .number .given .1 in
     sym (next-frame l (c .before .before .before .before .before .before .before .before .before .before .if1 .left) ∙ ap (onBody v01) (text-full 2 65535 l n v m s) ∙ ap (onReading b) q)
 
 pub next-record-spec : {M : Type 1} → statement M

@@ -29,7 +29,7 @@ shared-slice-read-out : tie.Need-shared-slice-read-out Inv-loop μ-loop
 shared-slice-read-out c = omega arith
 
 slice-write-out : tie.Need-slice-write-out Inv-loop μ-loop
-slice-write-out c = 
+slice-write-out c =
     let h = c .before .before .loop .inv in
     let a = c .before .before .before .args in
     omega (arith, ap length (h .2), length-paste (a .out .now) (a .at) (a .s .now) (c .before .before .loop .i) (omega arith) (omega arith))
@@ -41,20 +41,20 @@ loop-less : tie.Need-loop-less Inv-loop μ-loop
 loop-less c = omega arith
 
 loop-again : tie.Need-loop-again Inv-loop μ-loop
-loop-again c = 
+loop-again c =
     let h = c .before .before .loop .inv in
     let a = c .before .before .before .args in
     let i = c .before .before .loop .i in
     (omega arith, h .1, rw (add-one i) (ap (λ (m : List ℕ). set m (a .at + i) (getD (a .s .now) i 0)) (h .2) ∙ paste-suc (a .out .now) (a .at) (a .s .now) i 0 (omega arith) (omega arith)))
 
 same-length : tie.Need-same-length Inv-loop μ-loop
-same-length c = 
+same-length c =
     let h = c .before .loop .inv in
     let a = c .before .before .args in
     ap length (h .2) ∙ length-paste (a .out .now) (a .at) (a .s .now) (c .before .loop .i) (omega arith) (omega arith)
 
 returns : tie.Need-returns Inv-loop μ-loop
-returns c = 
+returns c =
     let h = c .before .loop .inv in
     let a = c .before .before .args in
     let z : c .before .loop .i ≡ length (a .s .now) = omega arith in

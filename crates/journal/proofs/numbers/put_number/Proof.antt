@@ -38,22 +38,25 @@ loop-less : tie.Need-loop-less Inv-loop μ-loop
 loop-less c = omega arith
 
 loop-again : tie.Need-loop-again Inv-loop μ-loop
-loop-again c = 
+loop-again c =
     let h = c .before .loop .inv in
     let out = c .before .loop .out in
     let i = c .before .loop .i in
     let r = c .before .loop .rest in
     let at = c .before .before .args .at in
-    let e : suc (i - 1) ≡ i = omega arith in
-    (omega arith, length-set out (at + (i - 1)) (r % 256) ∙ h .1, h .2,
-    number-turn at (i - 1) r out (omega arith) ∙ ap (λ (k : ℕ). over at (bytesOf k r) out) e ∙ h .3)
+    let e : suc (i - 1) ≡ i = omega arith in (
+      omega arith,
+      length-set out (at + (i - 1)) (r % 256) ∙ h .1,
+      h .2,
+      number-turn at (i - 1) r out (omega arith) ∙ ap (λ (k : ℕ). over at (bytesOf k r) out) e ∙ h .3,
+    )
 
 same-length : tie.Need-same-length Inv-loop μ-loop
 same-length c = c .before .loop .inv .1
 
 returns : tie.Need-returns Inv-loop μ-loop
 unfolding bytesOf
-returns c = 
+returns c =
     let h = c .before .loop .inv in
     let at = c .before .before .args .at in
     let z : c .before .loop .i ≡ 0 = omega arith in

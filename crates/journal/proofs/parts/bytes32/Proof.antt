@@ -29,7 +29,7 @@ copied-requires : tie.Need-copied-requires
 copied-requires c κs = search needs
 
 returns-2 : tie.Need-returns-2
-returns-2 c = 
+returns-2 c =
     let a = c .before .before .before .before .before .args in
     let l = a .s .now in
     let d = drop (a .at) l in
@@ -41,7 +41,7 @@ copied-requires-2 : tie.Need-copied-requires-2
 copied-requires-2 c κs = search needs
 
 returns-3 : tie.Need-returns-3
-returns-3 c = 
+returns-3 c =
     let a = c .before .before .before .before .before .args in
     let l = a .s .now in
     let d = drop (a .at) l in

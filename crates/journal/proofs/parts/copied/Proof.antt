@@ -36,7 +36,7 @@ loop-less : tie.Need-loop-less Inv-loop μ-loop
 loop-less c = omega arith
 
 loop-again : tie.Need-loop-again Inv-loop μ-loop
-loop-again c = 
+loop-again c =
     let l = c .before .before .before .args .part .now in
     let i = c .before .before .loop .i in
     let h = c .before .before .loop .inv in
@@ -44,7 +44,7 @@ loop-again c =
     (omega arith, h .1, h .2, rw (add-one i, h .3) (ap (λ (k : ℕ). set (paste (replicate 32 0) 0 l i) k (getD l i 0)) (sym e) ∙ paste-suc (replicate 32 0) 0 l i 0 (omega arith) (omega arith)))
 
 returns : tie.Need-returns Inv-loop μ-loop
-returns c = 
+returns c =
     let h = c .before .loop .inv in
     let z : c .before .loop .i ≡ c .before .before .args .n = omega arith in
     rw (h .3, z)

@@ -22,7 +22,7 @@ part-result-end : tie.Need-part-result-end
 part-result-end c = search needs
 
 returns : tie.Need-returns
-returns c = 
+returns c =
     let a = c .before .before .args in
     text-past (a .r .text) (a .r .«text_len») (length (a .body .now) - length (a .body .now)) (a .body .now) (c .before .if1 .taken)
 
@@ -39,7 +39,7 @@ part-result-end-2 : tie.Need-part-result-end-2
 part-result-end-2 c = search needs
 
 returns-2 : tie.Need-returns-2
-returns-2 c = 
+returns-2 c =
     let a = c .before .before .before .args in
     text-rest (a .r .text) (a .r .«text_len») (a .body .now) (c .before .if2 .taken)
 
@@ -56,7 +56,7 @@ part-result-end-3 : tie.Need-part-result-end-3
 part-result-end-3 c = search needs
 
 returns-3 : tie.Need-returns-3
-returns-3 c = 
+returns-3 c =
     let a = c .before .before .before .args in
     let e : a .r .text + a .r .«text_len» - a .r .text ≡ a .r .«text_len» = omega arith in
     ap (λ (k : ℕ). take k (drop (a .r .text) (a .body .now))) e

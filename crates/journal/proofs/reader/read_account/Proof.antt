@@ -18,7 +18,7 @@ sub-if1 c = search needs
 
 returns : tie.Need-returns
 unfolding decode
-returns c = 
+returns c =
     let a = c .before .args in
     let l = drop (a .at) (a .body .now) in
     let h : length l < 32 = omega (arith, length-drop (a .at) (a .body .now)) in
@@ -29,7 +29,7 @@ add-t5 c = search needs
 
 returns-2 : tie.Need-returns-2
 unfolding decode encode
-returns-2 c = 
+returns-2 c =
     let a = c .before .args in
     let l = drop (a .at) (a .body .now) in
     let h : 32 ≤ length l = omega (arith, length-drop (a .at) (a .body .now)) in

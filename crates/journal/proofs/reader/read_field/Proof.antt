@@ -97,22 +97,22 @@ returns : tie.Need-returns
 returns c = rw (c .before .enum-told .given .1) (c .read-account .ensures)
 
 returns-2 : tie.Need-returns-2
-returns-2 c = 
+returns-2 c =
     let a = c .before .before .before .before .args in
     rw (c .before .enum-told2 .given .1) (rw (c .before .enum-told2 .given .1) at (c .read-number .ensures) ∙ number-field its.No (a .at) (a .r) (drop (a .at) (a .body .now)) (omega arith))
 
 returns-3 : tie.Need-returns-3
-returns-3 c = 
+returns-3 c =
     let a = c .before .before .before .before .args in
     rw (c .before .enum-told3 .given .1) (rw (c .before .enum-told3 .given .1) at (c .read-number2 .ensures) ∙ number-field its.Slot (a .at) (a .r) (drop (a .at) (a .body .now)) (omega arith))
 
 returns-4 : tie.Need-returns-4
-returns-4 c = 
+returns-4 c =
     let a = c .before .before .before .before .args in
     rw (c .before .enum-told4 .given .1) (rw (c .before .enum-told4 .given .1) at (c .read-number3 .ensures) ∙ number-field its.K (a .at) (a .r) (drop (a .at) (a .body .now)) (omega arith))
 
 returns-5 : tie.Need-returns-5
-returns-5 c = 
+returns-5 c =
     let a = c .before .before .before .before .args in
     rw (c .before .enum-told5 .given .1) (rw (c .before .enum-told5 .given .1) at (c .read-number4 .ensures) ∙ number-field its.M (a .at) (a .r) (drop (a .at) (a .body .now)) (omega arith))
 
@@ -120,7 +120,7 @@ returns-6 : tie.Need-returns-6
 returns-6 c = rw (c .before .enum-told6 .given .1) (c .read-text .ensures)
 
 returns-7 : tie.Need-returns-7
-returns-7 c = 
+returns-7 c =
     let a = c .before .before .before .before .args in
     rw (c .before .enum-told7 .given .1) (rw (c .before .enum-told7 .given .1) at (c .read-number5 .ensures) ∙ number-field its.Amount (a .at) (a .r) (drop (a .at) (a .body .now)) (omega arith))
 
@@ -134,12 +134,12 @@ returns-10 : tie.Need-returns-10
 returns-10 c = rw (c .before .enum-told10 .given .1) (c .read-cap .ensures)
 
 returns-11 : tie.Need-returns-11
-returns-11 c = 
+returns-11 c =
     let a = c .before .before .before .before .args in
     rw (c .before .enum-told11 .given .1) (rw (c .before .enum-told11 .given .1) at (c .read-number6 .ensures) ∙ number-field its.From (a .at) (a .r) (drop (a .at) (a .body .now)) (omega arith))
 
 returns-12 : tie.Need-returns-12
-returns-12 c = 
+returns-12 c =
     let a = c .before .before .before .before .args in
     rw (c .before .enum-told12 .given .1) (rw (c .before .enum-told12 .given .1) at (c .read-number7 .ensures) ∙ number-field its.Until (a .at) (a .r) (drop (a .at) (a .body .now)) (omega arith))
 

@@ -28,7 +28,7 @@ enum-told : tie.Need-enum-told
 enum-told c = search needs
 
 returns : tie.Need-returns
-returns c = 
+returns c =
     let a = c .before .before .before .before .args in
     let l = drop (a .at) (a .body .now) in
     step-nothing its.Mode (a .at) (a .r) l (mode-cut l (not-there 1 l (sym (c .enum-told .given .1) ∙ c .before .before .number-at .ensures)))
@@ -40,7 +40,7 @@ add-t9 : tie.Need-add-t9
 add-t9 c = search needs
 
 returns-2 : tie.Need-returns-2
-returns-2 c = 
+returns-2 c =
     let a = c .before .before .before .before .before .before .before .args in
     let l = drop (a .at) (a .body .now) in
     let d : decode mode l ≡ found right.Read (drop 1 l) = mode-at l _ (valued 1 l (c .before .before .before .b .given .0 .0) (sym (c .before .before .before .b .given .1) ∙ c .before .before .before .before .before .number-at .ensures)) ∙ rw (eq-eqb _ _ (c .before .if1 .taken)) in
@@ -53,7 +53,7 @@ add-t12 : tie.Need-add-t12
 add-t12 c = search needs
 
 returns-3 : tie.Need-returns-3
-returns-3 c = 
+returns-3 c =
     let a = c .before .before .before .before .before .before .before .before .args in
     let l = drop (a .at) (a .body .now) in
     let d : decode mode l ≡ found right.Write (drop 1 l) = mode-at l _ (valued 1 l (c .before .before .before .before .b .given .0 .0) (sym (c .before .before .before .before .b .given .1) ∙ c .before .before .before .before .before .before .number-at .ensures)) ∙ rw (ne-eqb _ _ (c .before .before .if1 .left), eq-eqb _ _ (c .before .if2 .taken)) in
@@ -66,14 +66,14 @@ add-t15 : tie.Need-add-t15
 add-t15 c = search needs
 
 returns-4 : tie.Need-returns-4
-returns-4 c = 
+returns-4 c =
     let a = c .before .before .before .before .before .before .before .before .before .args in
     let l = drop (a .at) (a .body .now) in
     let d : decode mode l ≡ found right.Both (drop 1 l) = mode-at l _ (valued 1 l (c .before .before .before .before .before .b .given .0 .0) (sym (c .before .before .before .before .before .b .given .1) ∙ c .before .before .before .before .before .before .before .number-at .ensures)) ∙ rw (ne-eqb _ _ (c .before .before .before .if1 .left), ne-eqb _ _ (c .before .before .if2 .left), eq-eqb _ _ (c .before .if3 .taken)) in
     ap (λ (q : Record). Next q (a .at + 1)) (c .with-mode3 .ensures) ∙ step-found its.Mode (a .at) (a .r) l right.Both (drop 1 l) 1 d (length-mode right.Both)
 
 returns-5 : tie.Need-returns-5
-returns-5 c = 
+returns-5 c =
     let a = c .before .before .before .before .before .before .before .before .args in
     let l = drop (a .at) (a .body .now) in
     let d : decode mode l ≡ nothing = mode-at l _ (valued 1 l (c .before .before .before .before .b .given .0 .0) (sym (c .before .before .before .before .b .given .1) ∙ c .before .before .before .before .before .before .number-at .ensures)) ∙ rw (ne-eqb _ _ (c .before .before .if1 .left), ne-eqb _ _ (c .before .if2 .left), ne-eqb _ _ (c .if3 .left)) in

@@ -34,14 +34,14 @@ enum-told : tie.Need-enum-told
 enum-told c = search needs
 
 returns : tie.Need-returns
-returns c = 
+returns c =
     let a = c .before .before .before .before .before .args in
     let l = drop (a .at) (a .body .now) in
     let w = c .before .before .before .width .result in
     sym (ap (stepNumber (a .f) (a .at) (a .r)) (ap (λ (k : ℕ). decodeNumber k l) (sym (c .before .before .before .width .ensures .0)) ∙ not-there w l (sym (c .enum-told .given .1) ∙ c .before .before .number-at .ensures)))
 
 store-requires : tie.Need-store-requires
-store-requires c κs = 
+store-requires c κs =
     let a = c .before .before .before .before .before .before .args in
     let l = drop (a .at) (a .body .now) in
     let w = c .before .before .before .before .width .result in
@@ -52,7 +52,7 @@ add-t9 : tie.Need-add-t9
 add-t9 c = search needs
 
 returns-2 : tie.Need-returns-2
-returns-2 c = 
+returns-2 c =
     let a = c .before .before .before .before .before .before .before .args in
     let l = drop (a .at) (a .body .now) in
     let w = c .before .before .before .before .before .width .result in

@@ -22,13 +22,13 @@ enum-told : tie.Need-enum-told
 enum-told c = search needs
 
 returns : tie.Need-returns
-returns c = 
+returns c =
     let a = c .before .before .before .before .args in
     let l = drop (a .at) (a .body .now) in
     step-nothing its.Text (a .at) (a .r) l (text-cut 1 255 l (not-there 1 l (sym (c .enum-told .given .1) ∙ c .before .before .number-at .ensures)))
 
 returns-2 : tie.Need-returns-2
-returns-2 c = 
+returns-2 c =
     let a = c .before .before .before .before .before .before .args in
     let l = drop (a .at) (a .body .now) in
     step-nothing its.Text (a .at) (a .r) l (text-long 1 255 l _ (valued 1 l (c .before .before .n .given .0 .0) (sym (c .before .before .n .given .1) ∙ c .before .before .before .before .number-at .ensures)) (c .if1 .taken))
@@ -37,13 +37,13 @@ add-start : tie.Need-add-start
 add-start c = search needs
 
 sub-if2 : tie.Need-sub-if2
-sub-if2 c = 
+sub-if2 c =
     let a = c .before .before .before .before .before .before .args in
     let l = drop (a .at) (a .body .now) in
     omega (arith, length-drop (a .at) (a .body .now), (valued 1 l (c .before .before .n .given .0 .0) (sym (c .before .before .n .given .1) ∙ c .before .before .before .before .number-at .ensures)) .room)
 
 returns-3 : tie.Need-returns-3
-returns-3 c = 
+returns-3 c =
     let a = c .before .before .before .before .before .before .before .args in
     let l = drop (a .at) (a .body .now) in
     let v = valued 1 l (c .before .before .before .n .given .0 .0) (sym (c .before .before .before .n .given .1) ∙ c .before .before .before .before .before .number-at .ensures) in
@@ -54,7 +54,7 @@ add-t10 : tie.Need-add-t10
 add-t10 c = search needs
 
 returns-4 : tie.Need-returns-4
-returns-4 c = 
+returns-4 c =
     let a = c .before .before .before .before .before .before .before .args in
     let l = drop (a .at) (a .body .now) in
     let v = valued 1 l (c .before .before .before .n .given .0 .0) (sym (c .before .before .before .n .given .1) ∙ c .before .before .before .before .before .number-at .ensures) in

@@ -43,9 +43,15 @@ empty-requires c κs = tt
 
 loop-holds : tie.Need-loop-holds Inv-loop μ-loop
 loop-holds c =
-    let a = c .before .before .before .before .args in
-    (rw (c .empty .ensures) (c .before .before .fields-of .ensures), rw (c .empty .ensures) (c .before .field-count .ensures .0), c .before .field-count .ensures .1,
-    omega arith, c .before .before .before .before .pre, bytes-known (a .body .now) (λ k. c .before .before .before .shared-slice-known .given k .fits), refl)
+    let a = c .before .before .before .before .args in (
+      rw (c .empty .ensures) (c .before .before .fields-of .ensures),
+      rw (c .empty .ensures) (c .before .field-count .ensures .0),
+      c .before .field-count .ensures .1,
+      omega arith,
+      c .before .before .before .before .pre,
+      bytes-known (a .body .now) (λ k. c .before .before .before .shared-slice-known .given k .fits),
+      refl,
+    )
 
 array-copy-out-f : tie.Need-array-copy-out-f Inv-loop μ-loop
 array-copy-out-f c = omega arith
@@ -60,7 +66,7 @@ enum-told : tie.Need-enum-told Inv-loop μ-loop
 enum-told c = search needs
 
 returns : tie.Need-returns Inv-loop μ-loop
-returns c = 
+returns c =
     let l = c .before .before .before .before .before .before .before .before .before .before .args .body .now in
     let h = c .before .before .before .before .before .loop .inv in
     let i = c .before .before .before .before .before .loop .i in
@@ -79,7 +85,7 @@ loop-less : tie.Need-loop-less Inv-loop μ-loop
 loop-less c = omega arith
 
 loop-again : tie.Need-loop-again Inv-loop μ-loop
-loop-again c = 
+loop-again c =
     let l = c .before .before .before .before .before .before .before .before .before .before .before .args .body .now in
     let h = c .before .before .before .before .before .before .loop .inv in
     let i = c .before .before .before .before .before .before .loop .i in
@@ -89,13 +95,19 @@ loop-again c =
     let start = ap (λ (q : Record). readOn v01 (fieldsOf v01 (q .kind)) 1 q l) (sym (c .before .before .before .before .before .before .before .empty .ensures)) in
     let f = getD (c .before .before .before .before .before .before .before .before .before .fields-of .result) i its.Account in
     let d : drop i fs ≡ f ∷ drop (suc i) fs = rw (h .0) (field-at fs i (omega arith)) in
-    let p = passed v01 f (drop (suc i) fs) at r l (c .before .q .given .0 .0) (c .before .q .given .0 .1 .0) (h .5) (h .4) (sym (c .before .q .given .1) ∙ c .before .before .before .read-field .ensures) in
-    (h .0, h .1, h .2, omega arith, p .within, h .5,
-    h .6 ∙ ap (λ (gs : List Field). readOn v01 gs at r l) d ∙ p .same
-    ∙ ap (λ (j : ℕ). readOn v01 (drop j fs) (c .before .q .given .0 .1 .0) (c .before .q .given .0 .0) l) (sym (add-one i)))
+    let p = passed v01 f (drop (suc i) fs) at r l (c .before .q .given .0 .0) (c .before .q .given .0 .1 .0) (h .5) (h .4) (sym (c .before .q .given .1) ∙ c .before .before .before .read-field .ensures) in (
+      h .0,
+      h .1,
+      h .2,
+      omega arith,
+      p .within,
+      h .5,
+      h .6 ∙ ap (λ (gs : List Field). readOn v01 gs at r l) d ∙ p .same
+          ∙ ap (λ (j : ℕ). readOn v01 (drop j fs) (c .before .q .given .0 .1 .0) (c .before .q .given .0 .0) l) (sym (add-one i)),
+    )
 
 returns-2 : tie.Need-returns-2 Inv-loop μ-loop
-returns-2 c = 
+returns-2 c =
     let l = c .before .before .before .before .before .before .before .args .body .now in
     let h = c .before .before .loop .inv in
     let i = c .before .before .loop .i in
@@ -106,7 +118,7 @@ returns-2 c =
     sym (start ∙ h .6 ∙ ap (λ (gs : List Field). readOn v01 gs at r l) (drop-of-length-le fs {i = i} (omega arith)) ∙ left-over v01 at r l (c .if1 .taken))
 
 returns-3 : tie.Need-returns-3 Inv-loop μ-loop
-returns-3 c = 
+returns-3 c =
     let l = c .before .before .before .before .before .before .before .args .body .now in
     let h = c .before .before .loop .inv in
     let i = c .before .before .loop .i in

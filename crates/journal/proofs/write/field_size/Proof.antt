@@ -39,7 +39,7 @@ enum-told-6 : tie.Need-enum-told-6
 enum-told-6 c = search needs
 
 returns : tie.Need-returns
-returns c = 
+returns c =
     let d = c .before .before .before .before .args .d in
     let t = c .before .before .before .before .args .text .now in
     (size-no its.Text d t (lt-leb _ _ (c .if1 .taken)) ∙ ap (λ (f : Field). fieldSize v01 f d t) (sym (c .before .enum-told6 .given .1)), tt)
@@ -57,7 +57,7 @@ enum-told-9 : tie.Need-enum-told-9
 enum-told-9 c = search needs
 
 returns-2 : tie.Need-returns-2
-returns-2 c = 
+returns-2 c =
     let d = c .before .before .before .before .before .args .d in
     let t = c .before .before .before .before .before .args .text .now in
     (size-no its.Mode d t (lt-leb _ _ (c .if2 .taken)) ∙ ap (λ (f : Field). fieldSize v01 f d t) (sym (c .before .before .enum-told9 .given .1)), tt)
@@ -78,91 +78,91 @@ enum-told-13 : tie.Need-enum-told-13
 enum-told-13 c = search needs
 
 returns-3 : tie.Need-returns-3
-returns-3 c = 
+returns-3 c =
     let d = c .before .before .before .args .d in
     let t = c .before .before .before .args .text .now in
     let e : length (fieldBytes v01 its.Account d t) ≡ 32 = ap length (account-bytes d t) ∙ search needs in
     (size-ok its.Account d t (32) refl e ∙ ap (λ (f : Field). fieldSize v01 f d t) (sym (c .enum-told .given .1)), omega arith)
 
 returns-4 : tie.Need-returns-4
-returns-4 c = 
+returns-4 c =
     let d = c .before .before .before .args .d in
     let t = c .before .before .before .args .text .now in
     let e : length (fieldBytes v01 its.No d t) ≡ 4 = ap length (no-bytes d t) ∙ length-bytesOf 4 (d .no) in
     (size-ok its.No d t (4) refl e ∙ ap (λ (f : Field). fieldSize v01 f d t) (sym (c .enum-told2 .given .1)), omega arith)
 
 returns-5 : tie.Need-returns-5
-returns-5 c = 
+returns-5 c =
     let d = c .before .before .before .args .d in
     let t = c .before .before .before .args .text .now in
     let e : length (fieldBytes v01 its.Slot d t) ≡ 1 = ap length (slot-bytes d t) ∙ length-bytesOf 1 (d .slot) in
     (size-ok its.Slot d t (1) refl e ∙ ap (λ (f : Field). fieldSize v01 f d t) (sym (c .enum-told3 .given .1)), omega arith)
 
 returns-6 : tie.Need-returns-6
-returns-6 c = 
+returns-6 c =
     let d = c .before .before .before .args .d in
     let t = c .before .before .before .args .text .now in
     let e : length (fieldBytes v01 its.K d t) ≡ 1 = ap length (k-bytes d t) ∙ length-bytesOf 1 (d .k) in
     (size-ok its.K d t (1) refl e ∙ ap (λ (f : Field). fieldSize v01 f d t) (sym (c .enum-told4 .given .1)), omega arith)
 
 returns-7 : tie.Need-returns-7
-returns-7 c = 
+returns-7 c =
     let d = c .before .before .before .args .d in
     let t = c .before .before .before .args .text .now in
     let e : length (fieldBytes v01 its.M d t) ≡ 1 = ap length (m-bytes d t) ∙ length-bytesOf 1 (d .m) in
     (size-ok its.M d t (1) refl e ∙ ap (λ (f : Field). fieldSize v01 f d t) (sym (c .enum-told5 .given .1)), omega arith)
 
 returns-8 : tie.Need-returns-8
-returns-8 c = 
+returns-8 c =
     let d = c .before .before .before .before .args .d in
     let t = c .before .before .before .before .args .text .now in
     let e : length (fieldBytes v01 its.Text d t) ≡ 1 + length t = ap length (text-bytes d t) ∙ length-append (bytesOf 1 (length t)) t ∙ ap (λ (k : ℕ). k + length t) (length-bytesOf 1 (length t)) in
     (size-ok its.Text d t (1 + length t) (le-leb _ _ (c .if1 .left)) e ∙ ap (λ (f : Field). fieldSize v01 f d t) (sym (c .before .enum-told6 .given .1)), omega arith)
 
 returns-9 : tie.Need-returns-9
-returns-9 c = 
+returns-9 c =
     let d = c .before .before .before .args .d in
     let t = c .before .before .before .args .text .now in
     let e : length (fieldBytes v01 its.Amount d t) ≡ 8 = ap length (amount-bytes d t) ∙ length-bytesOf 8 (d .amount) in
     (size-ok its.Amount d t (8) refl e ∙ ap (λ (f : Field). fieldSize v01 f d t) (sym (c .enum-told7 .given .1)), omega arith)
 
 returns-10 : tie.Need-returns-10
-returns-10 c = 
+returns-10 c =
     let d = c .before .before .before .args .d in
     let t = c .before .before .before .args .text .now in
     let e : length (fieldBytes v01 its.Hash d t) ≡ 32 = ap length (hash-bytes d t) ∙ search needs in
     (size-ok its.Hash d t (32) refl e ∙ ap (λ (f : Field). fieldSize v01 f d t) (sym (c .enum-told8 .given .1)), omega arith)
 
 returns-11 : tie.Need-returns-11
-returns-11 c = 
+returns-11 c =
     let d = c .before .before .before .before .before .args .d in
     let t = c .before .before .before .before .before .args .text .now in
     let e : length (fieldBytes v01 its.Mode d t) ≡ 1 = ap length (mode-bytes d t (c .if2 .left)) ∙ length-bytesOf 1 (d .mode) in
     (size-ok its.Mode d t (1) (le-leb _ _ (c .if2 .left)) e ∙ ap (λ (f : Field). fieldSize v01 f d t) (sym (c .before .before .enum-told9 .given .1)), omega arith)
 
 returns-12 : tie.Need-returns-12
-returns-12 c = 
+returns-12 c =
     let d = c .before .before .before .before .args .d in
     let t = c .before .before .before .before .args .text .now in
     let e : length (fieldBytes v01 its.Cap d t) ≡ c .cap-size .result = ap length (cap-bytes d t) ∙ sym (c .cap-size .ensures .0) in
     (size-ok its.Cap d t (c .cap-size .result) refl e ∙ ap (λ (f : Field). fieldSize v01 f d t) (sym (c .before .enum-told10 .given .1)), omega (arith, c .cap-size .ensures .1))
 
 returns-13 : tie.Need-returns-13
-returns-13 c = 
+returns-13 c =
     let d = c .before .before .before .args .d in
     let t = c .before .before .before .args .text .now in
     let e : length (fieldBytes v01 its.From d t) ≡ 8 = ap length (from-bytes d t) ∙ length-bytesOf 8 (d .«from») in
     (size-ok its.From d t (8) refl e ∙ ap (λ (f : Field). fieldSize v01 f d t) (sym (c .enum-told11 .given .1)), omega arith)
 
 returns-14 : tie.Need-returns-14
-returns-14 c = 
+returns-14 c =
     let d = c .before .before .before .args .d in
     let t = c .before .before .before .args .text .now in
     let e : length (fieldBytes v01 its.Until d t) ≡ 8 = ap length (until-bytes d t) ∙ length-bytesOf 8 (d .until) in
     (size-ok its.Until d t (8) refl e ∙ ap (λ (f : Field). fieldSize v01 f d t) (sym (c .enum-told12 .given .1)), omega arith)
 
 returns-15 : tie.Need-returns-15
-returns-15 c = 
+returns-15 c =
     let d = c .before .before .before .args .d in
     let t = c .before .before .before .args .text .now in
     let e : length (fieldBytes v01 its.None d t) ≡ 0 = ap length (none-bytes d t) in

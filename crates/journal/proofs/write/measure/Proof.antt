@@ -52,7 +52,7 @@ enum-told : tie.Need-enum-told Inv-loop μ-loop
 enum-told c = search needs
 
 returns : tie.Need-returns Inv-loop μ-loop
-returns c = 
+returns c =
     let d = c .before .before .before .before .before .before .before .before .before .args .d in
     let t = c .before .before .before .before .before .before .before .before .before .args .text .now in
     let h = c .before .before .before .before .before .loop .inv in
@@ -62,10 +62,10 @@ returns c =
     let start = ap (λ (gs : List Field). fieldsSize v01 0 gs d t) (sym (fields-taken (fieldsOf v01 (c .before .before .before .before .before .before .before .before .before .args .kind)) _ _ (c .before .before .before .before .before .before .before .fields-of .ensures) (c .before .before .before .before .before .before .field-count .ensures .0))) in
     let f = getD (c .before .before .before .before .before .before .before .fields-of .result) i its.Account in
     let e : drop i fs ≡ f ∷ drop (suc i) fs = field-in (c .before .before .before .before .before .before .before .fields-of .result) (c .before .before .before .before .before .before .field-count .result) i (c .before .before .before .before .loop-test .taken) (h .2) in
-    sym (start ∙ h .4 ∙ ap (λ (gs : List Field). fieldsSize v01 n gs d t) e ∙ size-stop f (drop (suc i) fs) d t n (sym (c .before .before .field-size .ensures .0) ∙ c .enum-told .given .1))
+    (sym (start ∙ h .4 ∙ ap (λ (gs : List Field). fieldsSize v01 n gs d t) e ∙ size-stop f (drop (suc i) fs) d t n (sym (c .before .before .field-size .ensures .0) ∙ c .enum-told .given .1)), tt)
 
 add-n : tie.Need-add-n Inv-loop μ-loop
-add-n c = 
+add-n c =
     let s : small (Bytes (c .before .k .given .0 .0)) = rw (c .before .k .given .1) at (c .before .before .before .field-size .ensures .1) in
     omega (arith, c .before .before .before .before .before .before .loop .inv .3, c .before .before .before .before .before .before .loop .inv .0, c .before .before .before .before .before .loop-test .taken)
 
@@ -76,7 +76,7 @@ loop-less : tie.Need-loop-less Inv-loop μ-loop
 loop-less c = omega arith
 
 loop-again : tie.Need-loop-again Inv-loop μ-loop
-loop-again c = 
+loop-again c =
     let d = c .before .before .before .before .before .before .before .before .before .before .args .d in
     let t = c .before .before .before .before .before .before .before .before .before .before .args .text .now in
     let h = c .before .before .before .before .before .before .loop .inv in
@@ -87,13 +87,17 @@ loop-again c =
     let k = c .before .k .given .0 .0 in
     let s : small (Bytes k) = rw (c .before .k .given .1) at (c .before .before .before .field-size .ensures .1) in
     let f = getD (c .before .before .before .before .before .before .before .before .fields-of .result) i its.Account in
-    let e : drop i fs ≡ f ∷ drop (suc i) fs = field-in (c .before .before .before .before .before .before .before .before .fields-of .result) (c .before .before .before .before .before .before .before .field-count .result) i (c .before .before .before .before .before .loop-test .taken) (h .2) in
-    (h .0, omega arith, h .2, omega arith,
-    h .4 ∙ ap (λ (gs : List Field). fieldsSize v01 n gs d t) e ∙ size-more f (drop (suc i) fs) d t n k (sym (c .before .before .before .field-size .ensures .0) ∙ c .before .k .given .1)
-    ∙ ap (λ (j : ℕ). fieldsSize v01 (n + k) (drop j fs) d t) (sym (add-one i)))
+    let e : drop i fs ≡ f ∷ drop (suc i) fs = field-in (c .before .before .before .before .before .before .before .before .fields-of .result) (c .before .before .before .before .before .before .before .field-count .result) i (c .before .before .before .before .before .loop-test .taken) (h .2) in (
+      h .0,
+      omega arith,
+      h .2,
+      omega arith,
+      h .4 ∙ ap (λ (gs : List Field). fieldsSize v01 n gs d t) e ∙ size-more f (drop (suc i) fs) d t n k (sym (c .before .before .before .field-size .ensures .0) ∙ c .before .k .given .1)
+          ∙ ap (λ (j : ℕ). fieldsSize v01 (n + k) (drop j fs) d t) (sym (add-one i)),
+    )
 
 returns-2 : tie.Need-returns-2 Inv-loop μ-loop
-returns-2 c = 
+returns-2 c =
     let d = c .before .before .before .before .before .args .d in
     let t = c .before .before .before .before .before .args .text .now in
     let h = c .before .loop .inv in
@@ -102,7 +106,7 @@ returns-2 c =
     let fs = take (c .before .before .field-count .result) (c .before .before .before .fields-of .result) in
     let start = ap (λ (gs : List Field). fieldsSize v01 0 gs d t) (sym (fields-taken (fieldsOf v01 (c .before .before .before .before .before .args .kind)) _ _ (c .before .before .before .fields-of .ensures) (c .before .before .field-count .ensures .0))) in
     let z : drop i fs ≡ [] = drop-of-length-le fs {i = i} (omega (arith, length-take-le (c .before .before .field-count .result) (c .before .before .before .fields-of .result) (h .2))) in
-    sym (start ∙ h .4 ∙ ap (λ (gs : List Field). fieldsSize v01 n gs d t) z ∙ size-end d t n)
+    (sym (start ∙ h .4 ∙ ap (λ (gs : List Field). fieldsSize v01 n gs d t) z ∙ size-end d t n), omega (arith, h .3, h .1, h .0))
 
 pub measure-spec : {M : Type 1} → statement M
 measure-spec =

@@ -28,7 +28,7 @@ enum-told : tie.Need-enum-told
 enum-told c = search needs
 
 put-block-requires : tie.Need-put-block-requires
-put-block-requires c κs = 
+put-block-requires c κs =
     let a = c .before .before .before .before .before .before .before .before .args in
     let t = a .text .now in
     let told : fieldBytes v01 (a .f) (a .d) t ≡ fieldBytes v01 its.Account (a .d) t = ap (λ (f : Field). fieldBytes v01 f (a .d) t) (c .before .before .enum-told .given .1) in
@@ -44,7 +44,7 @@ cast-put-value : tie.Need-cast-put-value
 cast-put-value c = search needs
 
 put-value-requires : tie.Need-put-value-requires
-put-value-requires c κs = 
+put-value-requires c κs =
     let a = c .before .before .before .before .before .before .before .before .args in
     let t = a .text .now in
     let told : fieldBytes v01 (a .f) (a .d) t ≡ fieldBytes v01 its.No (a .d) t = ap (λ (f : Field). fieldBytes v01 f (a .d) t) (c .before .before .enum-told2 .given .1) in
@@ -59,7 +59,7 @@ cast-put-value-2 : tie.Need-cast-put-value-2
 cast-put-value-2 c = search needs
 
 put-value-requires-2 : tie.Need-put-value-requires-2
-put-value-requires-2 c κs = 
+put-value-requires-2 c κs =
     let a = c .before .before .before .before .before .before .before .before .args in
     let t = a .text .now in
     let told : fieldBytes v01 (a .f) (a .d) t ≡ fieldBytes v01 its.Slot (a .d) t = ap (λ (f : Field). fieldBytes v01 f (a .d) t) (c .before .before .enum-told3 .given .1) in
@@ -74,7 +74,7 @@ cast-put-value-3 : tie.Need-cast-put-value-3
 cast-put-value-3 c = search needs
 
 put-value-requires-3 : tie.Need-put-value-requires-3
-put-value-requires-3 c κs = 
+put-value-requires-3 c κs =
     let a = c .before .before .before .before .before .before .before .before .args in
     let t = a .text .now in
     let told : fieldBytes v01 (a .f) (a .d) t ≡ fieldBytes v01 its.K (a .d) t = ap (λ (f : Field). fieldBytes v01 f (a .d) t) (c .before .before .enum-told4 .given .1) in
@@ -89,7 +89,7 @@ cast-put-value-4 : tie.Need-cast-put-value-4
 cast-put-value-4 c = search needs
 
 put-value-requires-4 : tie.Need-put-value-requires-4
-put-value-requires-4 c κs = 
+put-value-requires-4 c κs =
     let a = c .before .before .before .before .before .before .before .before .args in
     let t = a .text .now in
     let told : fieldBytes v01 (a .f) (a .d) t ≡ fieldBytes v01 its.M (a .d) t = ap (λ (f : Field). fieldBytes v01 f (a .d) t) (c .before .before .enum-told5 .given .1) in
@@ -101,7 +101,7 @@ enum-told-6 : tie.Need-enum-told-6
 enum-told-6 c = search needs
 
 put-text-requires : tie.Need-put-text-requires
-put-text-requires c κs = 
+put-text-requires c κs =
     let a = c .before .before .before .before .before .before .before .args in
     let t = a .text .now in
     let told : fieldBytes v01 (a .f) (a .d) t ≡ fieldBytes v01 its.Text (a .d) t = ap (λ (f : Field). fieldBytes v01 f (a .d) t) (c .before .enum-told6 .given .1) in
@@ -113,7 +113,7 @@ enum-told-7 : tie.Need-enum-told-7
 enum-told-7 c = search needs
 
 put-value-requires-5 : tie.Need-put-value-requires-5
-put-value-requires-5 c κs = 
+put-value-requires-5 c κs =
     let a = c .before .before .before .before .before .before .before .args in
     let t = a .text .now in
     let told : fieldBytes v01 (a .f) (a .d) t ≡ fieldBytes v01 its.Amount (a .d) t = ap (λ (f : Field). fieldBytes v01 f (a .d) t) (c .before .enum-told7 .given .1) in
@@ -125,7 +125,7 @@ enum-told-8 : tie.Need-enum-told-8
 enum-told-8 c = search needs
 
 put-block-requires-2 : tie.Need-put-block-requires-2
-put-block-requires-2 c κs = 
+put-block-requires-2 c κs =
     let a = c .before .before .before .before .before .before .before .before .args in
     let t = a .text .now in
     let told : fieldBytes v01 (a .f) (a .d) t ≡ fieldBytes v01 its.Hash (a .d) t = ap (λ (f : Field). fieldBytes v01 f (a .d) t) (c .before .before .enum-told8 .given .1) in
@@ -141,7 +141,7 @@ cast-put-value-5 : tie.Need-cast-put-value-5
 cast-put-value-5 c = search needs
 
 put-value-requires-6 : tie.Need-put-value-requires-6
-put-value-requires-6 c κs = 
+put-value-requires-6 c κs =
     let a = c .before .before .before .before .before .before .before .before .args in
     let t = a .text .now in
     let told : fieldBytes v01 (a .f) (a .d) t ≡ fieldBytes v01 its.Mode (a .d) t = ap (λ (f : Field). fieldBytes v01 f (a .d) t) (c .before .before .enum-told9 .given .1) in
@@ -154,7 +154,7 @@ enum-told-10 : tie.Need-enum-told-10
 enum-told-10 c = search needs
 
 put-cap-requires : tie.Need-put-cap-requires
-put-cap-requires c κs = 
+put-cap-requires c κs =
     let a = c .before .before .before .before .before .before .before .args in
     let t = a .text .now in
     let told : fieldBytes v01 (a .f) (a .d) t ≡ fieldBytes v01 its.Cap (a .d) t = ap (λ (f : Field). fieldBytes v01 f (a .d) t) (c .before .enum-told10 .given .1) in
@@ -166,7 +166,7 @@ enum-told-11 : tie.Need-enum-told-11
 enum-told-11 c = search needs
 
 put-value-requires-7 : tie.Need-put-value-requires-7
-put-value-requires-7 c κs = 
+put-value-requires-7 c κs =
     let a = c .before .before .before .before .before .before .before .args in
     let t = a .text .now in
     let told : fieldBytes v01 (a .f) (a .d) t ≡ fieldBytes v01 its.From (a .d) t = ap (λ (f : Field). fieldBytes v01 f (a .d) t) (c .before .enum-told11 .given .1) in
@@ -178,7 +178,7 @@ enum-told-12 : tie.Need-enum-told-12
 enum-told-12 c = search needs
 
 put-value-requires-8 : tie.Need-put-value-requires-8
-put-value-requires-8 c κs = 
+put-value-requires-8 c κs =
     let a = c .before .before .before .before .before .before .before .args in
     let t = a .text .now in
     let told : fieldBytes v01 (a .f) (a .d) t ≡ fieldBytes v01 its.Until (a .d) t = ap (λ (f : Field). fieldBytes v01 f (a .d) t) (c .before .enum-told12 .given .1) in
@@ -193,7 +193,7 @@ same-length : tie.Need-same-length
 same-length c = search needs
 
 returns : tie.Need-returns
-returns c = 
+returns c =
     let a = c .before .before .before .before .before .before .before .before .before .before .before .args in
     let t = a .text .now in
     let told : fieldBytes v01 (a .f) (a .d) t ≡ fieldBytes v01 its.Account (a .d) t = ap (λ (f : Field). fieldBytes v01 f (a .d) t) (c .before .before .before .before .before .enum-told .given .1) in
@@ -206,7 +206,7 @@ same-length-2 : tie.Need-same-length-2
 same-length-2 c = search needs
 
 returns-2 : tie.Need-returns-2
-returns-2 c = 
+returns-2 c =
     let a = c .before .before .before .before .before .before .before .before .before .before .before .args in
     let t = a .text .now in
     let told : fieldBytes v01 (a .f) (a .d) t ≡ fieldBytes v01 its.No (a .d) t = ap (λ (f : Field). fieldBytes v01 f (a .d) t) (c .before .before .before .before .before .enum-told2 .given .1) in
@@ -218,7 +218,7 @@ same-length-3 : tie.Need-same-length-3
 same-length-3 c = search needs
 
 returns-3 : tie.Need-returns-3
-returns-3 c = 
+returns-3 c =
     let a = c .before .before .before .before .before .before .before .before .before .before .before .args in
     let t = a .text .now in
     let told : fieldBytes v01 (a .f) (a .d) t ≡ fieldBytes v01 its.Slot (a .d) t = ap (λ (f : Field). fieldBytes v01 f (a .d) t) (c .before .before .before .before .before .enum-told3 .given .1) in
@@ -230,7 +230,7 @@ same-length-4 : tie.Need-same-length-4
 same-length-4 c = search needs
 
 returns-4 : tie.Need-returns-4
-returns-4 c = 
+returns-4 c =
     let a = c .before .before .before .before .before .before .before .before .before .before .before .args in
     let t = a .text .now in
     let told : fieldBytes v01 (a .f) (a .d) t ≡ fieldBytes v01 its.K (a .d) t = ap (λ (f : Field). fieldBytes v01 f (a .d) t) (c .before .before .before .before .before .enum-told4 .given .1) in
@@ -242,7 +242,7 @@ same-length-5 : tie.Need-same-length-5
 same-length-5 c = search needs
 
 returns-5 : tie.Need-returns-5
-returns-5 c = 
+returns-5 c =
     let a = c .before .before .before .before .before .before .before .before .before .before .before .args in
     let t = a .text .now in
     let told : fieldBytes v01 (a .f) (a .d) t ≡ fieldBytes v01 its.M (a .d) t = ap (λ (f : Field). fieldBytes v01 f (a .d) t) (c .before .before .before .before .before .enum-told5 .given .1) in
@@ -254,7 +254,7 @@ same-length-6 : tie.Need-same-length-6
 same-length-6 c = search needs
 
 returns-6 : tie.Need-returns-6
-returns-6 c = 
+returns-6 c =
     let a = c .before .before .before .before .before .before .before .before .before .before .args in
     let t = a .text .now in
     let told : fieldBytes v01 (a .f) (a .d) t ≡ fieldBytes v01 its.Text (a .d) t = ap (λ (f : Field). fieldBytes v01 f (a .d) t) (c .before .before .before .before .enum-told6 .given .1) in
@@ -266,7 +266,7 @@ same-length-7 : tie.Need-same-length-7
 same-length-7 c = search needs
 
 returns-7 : tie.Need-returns-7
-returns-7 c = 
+returns-7 c =
     let a = c .before .before .before .before .before .before .before .before .before .before .args in
     let t = a .text .now in
     let told : fieldBytes v01 (a .f) (a .d) t ≡ fieldBytes v01 its.Amount (a .d) t = ap (λ (f : Field). fieldBytes v01 f (a .d) t) (c .before .before .before .before .enum-told7 .given .1) in
@@ -278,7 +278,7 @@ same-length-8 : tie.Need-same-length-8
 same-length-8 c = search needs
 
 returns-8 : tie.Need-returns-8
-returns-8 c = 
+returns-8 c =
     let a = c .before .before .before .before .before .before .before .before .before .before .before .args in
     let t = a .text .now in
     let told : fieldBytes v01 (a .f) (a .d) t ≡ fieldBytes v01 its.Hash (a .d) t = ap (λ (f : Field). fieldBytes v01 f (a .d) t) (c .before .before .before .before .before .enum-told8 .given .1) in
@@ -291,7 +291,7 @@ same-length-9 : tie.Need-same-length-9
 same-length-9 c = search needs
 
 returns-9 : tie.Need-returns-9
-returns-9 c = 
+returns-9 c =
     let a = c .before .before .before .before .before .before .before .before .before .before .before .args in
     let t = a .text .now in
     let told : fieldBytes v01 (a .f) (a .d) t ≡ fieldBytes v01 its.Mode (a .d) t = ap (λ (f : Field). fieldBytes v01 f (a .d) t) (c .before .before .before .before .before .enum-told9 .given .1) in
@@ -304,7 +304,7 @@ same-length-10 : tie.Need-same-length-10
 same-length-10 c = search needs
 
 returns-10 : tie.Need-returns-10
-returns-10 c = 
+returns-10 c =
     let a = c .before .before .before .before .before .before .before .before .before .before .args in
     let t = a .text .now in
     let told : fieldBytes v01 (a .f) (a .d) t ≡ fieldBytes v01 its.Cap (a .d) t = ap (λ (f : Field). fieldBytes v01 f (a .d) t) (c .before .before .before .before .enum-told10 .given .1) in
@@ -316,7 +316,7 @@ same-length-11 : tie.Need-same-length-11
 same-length-11 c = search needs
 
 returns-11 : tie.Need-returns-11
-returns-11 c = 
+returns-11 c =
     let a = c .before .before .before .before .before .before .before .before .before .before .args in
     let t = a .text .now in
     let told : fieldBytes v01 (a .f) (a .d) t ≡ fieldBytes v01 its.From (a .d) t = ap (λ (f : Field). fieldBytes v01 f (a .d) t) (c .before .before .before .before .enum-told11 .given .1) in
@@ -328,7 +328,7 @@ same-length-12 : tie.Need-same-length-12
 same-length-12 c = search needs
 
 returns-12 : tie.Need-returns-12
-returns-12 c = 
+returns-12 c =
     let a = c .before .before .before .before .before .before .before .before .before .before .args in
     let t = a .text .now in
     let told : fieldBytes v01 (a .f) (a .d) t ≡ fieldBytes v01 its.Until (a .d) t = ap (λ (f : Field). fieldBytes v01 f (a .d) t) (c .before .before .before .before .enum-told12 .given .1) in
@@ -337,7 +337,7 @@ returns-12 c =
     (c .before .before .put-value8 .ensures .0 ∙ ap (λ (k : ℕ). a .at + k) (sym n), c .before .before .put-value8 .ensures .1 ∙ ap (λ (b : List ℕ). over (a .at) b (a .out .now)) (sym e))
 
 returns-13 : tie.Need-returns-13
-returns-13 c = 
+returns-13 c =
     let a = c .before .before .before .before .before .before .args in
     let t = a .text .now in
     let told : fieldBytes v01 (a .f) (a .d) t ≡ fieldBytes v01 its.None (a .d) t = ap (λ (f : Field). fieldBytes v01 f (a .d) t) (c .enum-told13 .given .1) in

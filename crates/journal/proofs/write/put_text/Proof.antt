@@ -32,11 +32,13 @@ same-length : tie.Need-same-length
 same-length c = search needs
 
 returns : tie.Need-returns
-returns c = 
+returns c =
     let a = c .before .before .before .before .before .before .before .before .before .before .args in
-    let t = a .text .now in
-    (omega arith, c .before .before .put-bytes .ensures ∙ ap (λ (m : List ℕ). over (a .at + 1) t m) (c .before .before .before .before .before .before .put-number .ensures)
-    ∙ over-pair (a .at) 1 (bytesOf 1 (length t)) t (a .out .now) (length-bytesOf 1 (length t)) (omega (arith, c .before .before .before .before .before .before .before .before .before .before .pre)))
+    let t = a .text .now in (
+      omega arith,
+      c .before .before .put-bytes .ensures ∙ ap (λ (m : List ℕ). over (a .at + 1) t m) (c .before .before .before .before .before .before .put-number .ensures)
+          ∙ over-pair (a .at) 1 (bytesOf 1 (length t)) t (a .out .now) (length-bytesOf 1 (length t)) (omega (arith, c .before .before .before .before .before .before .before .before .before .before .pre)),
+    )
 
 pub put-text-spec : {M : Type 1} → statement M
 put-text-spec =
