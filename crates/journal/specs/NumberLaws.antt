@@ -35,9 +35,8 @@ unfolding numberOf
 numberOf-snoc [] b = omega (arith, mul-one b)
 numberOf-snoc (x ∷ l) b =
     let e : length (l ++ (b ∷ [])) ≡ suc (length l) = length-append l (b ∷ []) ∙ add-one (length l) in
-    let p : 256 ^ suc (length l) ≡ 256 ^ length l * 256 = pow-suc 256 (length l) in
-    let q : x * (256 ^ length l * 256) ≡ x * 256 ^ length l * 256 = sym (mul-assoc x (256 ^ length l) 256) in
-    rw (e, p, q) (omega (arith, numberOf-snoc l b))
+    let q : x * 256 ^ length (l ++ (b ∷ [])) ≡ x * 256 ^ length l * 256 = rw (e, pow-suc 256 (length l)) (sym (mul-assoc x (256 ^ length l) 256)) in
+    omega (arith, numberOf-snoc l b)
 
 -- bytes stand for less than 256 to their number
 pub numberOf-lt : (l : List ℕ) → areBytes l ≡ true → numberOf l < 256 ^ length l

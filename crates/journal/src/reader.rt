@@ -189,14 +189,14 @@ fn read_cap(body: &[u8], at: usize, r: Record) -> Step
     requires { ⌜ at ≤ length (now body) ⌝ }
     ensures { λ s. ⌜ s ≡ stepTo v01 Field.Cap at r (decode (formatOf v01 Field.Cap) (drop at (now (body .entry)))) ⌝ }
 {
-    let Number::Value(b) = number_at(body, at, 1) else {
+    let Number::Value(tag) = number_at(body, at, 1) else {
         return Step::Refused;
     };
     let next = at + 1;
-    if b == 0 {
+    if tag == 0 {
         return Step::Next(with_cap(r, Cap::Unlimited), next);
     }
-    if b == 1 {
+    if tag == 1 {
         let Number::Value(n) = number_at(body, next, 8) else {
             return Step::Refused;
         };

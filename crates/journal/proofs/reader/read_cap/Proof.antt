@@ -25,8 +25,8 @@ use Rattle.journal.proofs.numbers.number_at.Reads as number-at-reads
 number-at-requires : tie.Need-number-at-requires
 number-at-requires c κs = search needs
 
-enum-known-b : tie.Need-enum-known-b
-enum-known-b c = search needs
+enum-known-tag : tie.Need-enum-known-tag
+enum-known-tag c = search needs
 
 enum-told : tie.Need-enum-told
 enum-told c = search needs
@@ -47,14 +47,14 @@ returns-2 : tie.Need-returns-2
 returns-2 c =
     let a = c .before .before .before .before .before .before .before .args in
     let l = drop (a .at) (a .body .now) in
-    let d : decode cap l ≡ found Unlimited (drop 1 l) = cap-at l _ (valued 1 l (c .before .before .before .b .given .0 .0) (sym (c .before .before .before .b .given .1) ∙ c .before .before .before .before .before .number-at .ensures)) ∙ rw (eq-eqb _ _ (c .before .if1 .taken)) in
+    let d : decode cap l ≡ found Unlimited (drop 1 l) = cap-at l _ (valued 1 l (c .before .before .before .tag .given .0 .0) (sym (c .before .before .before .tag .given .1) ∙ c .before .before .before .before .before .number-at .ensures)) ∙ rw (eq-eqb _ _ (c .before .if1 .taken)) in
     ap (λ (q : Record). Next q (a .at + 1)) (c .with-cap .ensures) ∙ step-found its.Cap (a .at) (a .r) l Unlimited (drop 1 l) 1 d length-unlimited
 
 number-at-requires-2 : tie.Need-number-at-requires-2
 number-at-requires-2 c κs =
     let a = c .before .before .before .before .before .before .before .args in
     let l = drop (a .at) (a .body .now) in
-    omega (arith, length-drop (a .at) (a .body .now), (valued 1 l (c .before .before .before .b .given .0 .0) (sym (c .before .before .before .b .given .1) ∙ c .before .before .before .before .before .number-at .ensures)) .room)
+    omega (arith, length-drop (a .at) (a .body .now), (valued 1 l (c .before .before .before .tag .given .0 .0) (sym (c .before .before .before .tag .given .1) ∙ c .before .before .before .before .before .number-at .ensures)) .room)
 
 enum-known-n : tie.Need-enum-known-n
 enum-known-n c = search needs
@@ -68,7 +68,7 @@ returns-3 c =
     let l = drop (a .at) (a .body .now) in
     let k : decodeNumber 8 (drop 1 l) ≡ nothing =
     ap (decodeNumber 8) (drop-drop 1 (a .at) (a .body .now)) ∙ not-there 8 (drop (a .at + 1) (a .body .now)) (sym (c .enum-told2 .given .1) ∙ c .before .before .number-at2 .ensures) in
-    let d : decode cap l ≡ nothing = cap-at l _ (valued 1 l (c .before .before .before .before .before .before .b .given .0 .0) (sym (c .before .before .before .before .before .before .b .given .1) ∙ c .before .before .before .before .before .before .before .before .number-at .ensures)) ∙ rw (ne-eqb _ _ (c .before .before .before .before .if1 .left), eq-eqb _ _ (c .before .before .before .if2 .taken), k) in
+    let d : decode cap l ≡ nothing = cap-at l _ (valued 1 l (c .before .before .before .before .before .before .tag .given .0 .0) (sym (c .before .before .before .before .before .before .tag .given .1) ∙ c .before .before .before .before .before .before .before .before .number-at .ensures)) ∙ rw (ne-eqb _ _ (c .before .before .before .before .if1 .left), eq-eqb _ _ (c .before .before .before .if2 .taken), k) in
     step-nothing its.Cap (a .at) (a .r) l d
 
 with-cap-requires-2 : tie.Need-with-cap-requires-2
@@ -85,7 +85,7 @@ returns-4 c =
     let n = c .before .before .n .given .0 .0 in
     let k : decodeNumber 8 (drop 1 l) ≡ found n (drop 8 m) =
     ap (decodeNumber 8) (drop-drop 1 (a .at) (a .body .now)) ∙ valued 8 m n (sym (c .before .before .n .given .1) ∙ c .before .before .before .before .number-at2 .ensures) .read in
-    let d : decode cap l ≡ found (Bytes n) (drop 8 m) = cap-at l _ (valued 1 l (c .before .before .before .before .before .before .before .before .b .given .0 .0) (sym (c .before .before .before .before .before .before .before .before .b .given .1) ∙ c .before .before .before .before .before .before .before .before .before .before .number-at .ensures)) ∙ rw (ne-eqb _ _ (c .before .before .before .before .before .before .if1 .left), eq-eqb _ _ (c .before .before .before .before .before .if2 .taken), k) in
+    let d : decode cap l ≡ found (Bytes n) (drop 8 m) = cap-at l _ (valued 1 l (c .before .before .before .before .before .before .before .before .tag .given .0 .0) (sym (c .before .before .before .before .before .before .before .before .tag .given .1) ∙ c .before .before .before .before .before .before .before .before .before .before .number-at .ensures)) ∙ rw (ne-eqb _ _ (c .before .before .before .before .before .before .if1 .left), eq-eqb _ _ (c .before .before .before .before .before .if2 .taken), k) in
     let z : a .at + 1 + 8 ≡ a .at + 9 = omega arith in
     ap (λ (q : Record). Next q (a .at + 1 + 8)) (c .with-cap2 .ensures) ∙ ap (λ (i : ℕ). Next (place v01 its.Cap 0 (Bytes n) (a .r)) i) z
     ∙ step-found its.Cap (a .at) (a .r) l (Bytes n) (drop 8 m) 9 d (length-count n)
@@ -94,7 +94,7 @@ returns-5 : tie.Need-returns-5
 returns-5 c =
     let a = c .before .before .before .before .before .before .before .args in
     let l = drop (a .at) (a .body .now) in
-    let d : decode cap l ≡ nothing = cap-at l _ (valued 1 l (c .before .before .before .b .given .0 .0) (sym (c .before .before .before .b .given .1) ∙ c .before .before .before .before .before .number-at .ensures)) ∙ rw (ne-eqb _ _ (c .before .if1 .left), ne-eqb _ _ (c .if2 .left)) in
+    let d : decode cap l ≡ nothing = cap-at l _ (valued 1 l (c .before .before .before .tag .given .0 .0) (sym (c .before .before .before .tag .given .1) ∙ c .before .before .before .before .before .number-at .ensures)) ∙ rw (ne-eqb _ _ (c .before .if1 .left), ne-eqb _ _ (c .if2 .left)) in
     step-nothing its.Cap (a .at) (a .r) l d
 
 pub read-cap-spec : {M : Type 1} → statement M
@@ -102,7 +102,7 @@ read-cap-spec =
     tie.close
     (tie.spec
     number-at-requires
-    enum-known-b
+    enum-known-tag
     enum-told
     returns
     add-next
