@@ -1,0 +1,127 @@
+-- Reading the fields of a record one after another, as the loop does. Assumes nothing.
+use mathlib.Core.Path.{_≡_, refl, sym, _∙_, ap}
+use mathlib.Core.Bool.{Bool, true, false}
+use mathlib.Core.List.{List, [], _∷_, _++_}
+use mathlib.Core.Option.{Option, none, some}
+use Prim.Native.Nat.{ℕ, zero, suc, _+_, _-_, _<_, _≤_}
+use native.Mathlib.Omega.{arith}
+use lib.Pow.{areBytes}
+use lib.ListN.{length, drop, getD, length-append, length-drop, drop-of-length-le, List·getD-append}
+use lib.Seq.{drop-cons}
+use Rattle.journal.specs.declared.Kind.{Kind}
+use Rattle.journal.specs.declared.Field.{Field}
+use Rattle.journal.specs.declared.Field.the-variants as its
+use Rattle.journal.specs.declared.Record.{Record}
+use Rattle.journal.specs.declared.Reading.{Reading}
+use Rattle.journal.specs.declared.Reading.the-variants as answer
+use Rattle.journal.specs.declared.Step.{Step}
+use Rattle.journal.specs.declared.Step.the-variants.{Next, Refused}
+use Rattle.journal.specs.Fields.{Decoded, nothing, found, onFound, inFront, decode, decodeAll, encode, ValueOf, ValuesOf}
+use Rattle.journal.specs.FieldLaws.{decode-taken, bytes-drop}
+use Rattle.journal.specs.Records.{Version, v01, formatOf, formsOf, fieldsOf, kinds, kindAmong, whole, parse, parseKind}
+use Rattle.journal.specs.Places.{RECORD, blank, place, placeAll, readingOf, readAt}
+use Rattle.journal.specs.PlaceLaws.{past}
+use Rattle.journal.specs.Table.{named, namedBy, padded, fieldsMost, stepTo, ending, readOn}
+use Rattle.journal.specs.declared.Named.the-variants as a
+
+-- what the first field of a list leaves to the others
+front : (v : Version) (f : Field) (fs : List Field) (at : ℕ) (r : Record) (x : ValueOf (formatOf v f)) (d : Decoded (ValuesOf (formsOf v fs)))
+    → ending v (f ∷ fs) at r (onFound (inFront x) d) ≡ ending v fs (at + length (encode (formatOf v f) x)) (place v f at x r) d
+front v f fs at r x nothing = refl
+front v f fs at r x (found y []) = refl
+front v f fs at r x (found y (b ∷ l)) = refl
+
+-- after a field that was read, the others are left, and the place is within the bytes
+pub record Passed (v : Version) (f : Field) (fs : List Field) (at : ℕ) (r : Record) (l : List ℕ) (q : Record) (next : ℕ) : Type 0 where
+  pub same : readOn v (f ∷ fs) at r l ≡ readOn v fs next q l
+  pub within : next ≤ length l
+
+found-passed : (v : Version) (f : Field) (fs : List Field) (at : ℕ) (r : Record) (l : List ℕ) (x : ValueOf (formatOf v f)) (rest : List ℕ) → areBytes l ≡ true
+    → at ≤ length l → decode (formatOf v f) (drop at l) ≡ found x rest
+    → Passed v f fs at r l (place v f at x r) (at + length (encode (formatOf v f) x))
+unfolding readOn decodeAll
+found-passed v f fs at r l x rest h k e =
+    let t = decode-taken (formatOf v f) (drop at l) x rest (bytes-drop at l h) e in
+    let n = at + length (encode (formatOf v f) x) in
+    let d : drop n l ≡ rest = past at l (encode (formatOf v f) x) rest (sym (t .whole)) in
+    let go : (d : Decoded (ValueOf (formatOf v f))) → Decoded (ValuesOf (formsOf v (f ∷ fs))) =
+    λ d. onFound (λ a more. onFound (inFront a) (decodeAll (formsOf v fs) more)) d in
+    record {
+      same =
+          ap (λ (d : Decoded (ValueOf (formatOf v f))). ending v (f ∷ fs) at r (go d)) e ∙ front v f fs at r x (decodeAll (formsOf v fs) rest)
+          ∙ ap (λ (m : List ℕ). ending v fs n (place v f at x r) (decodeAll (formsOf v fs) m)) (sym d);
+      within = omega (arith, ap length (t .whole), length-append (encode (formatOf v f) x) rest, length-drop at l);
+    }
+
+pub passed : (v : Version) (f : Field) (fs : List Field) (at : ℕ) (r : Record) (l : List ℕ) (q : Record) (next : ℕ) → areBytes l ≡ true → at ≤ length l
+    → Next q next ≡ stepTo v f at r (decode (formatOf v f) (drop at l)) → Passed v f fs at r l q next
+passed v f fs at r l q next h k e = go (decode (formatOf v f) (drop at l)) refl e
+  where
+    go : (d : Decoded (ValueOf (formatOf v f))) → decode (formatOf v f) (drop at l) ≡ d → Next q next ≡ stepTo v f at r d → Passed v f fs at r l q next
+    go nothing p e = let z : _≡_ {A = ℕ} 0 1 = cc in absurd (omega arith)
+    go (found x rest) p e =
+        let eq : q ≡ place v f at x r = cc in
+        let en : next ≡ at + length (encode (formatOf v f) x) = cc in
+        rw (eq, en) (found-passed v f fs at r l x rest h k p)
+
+-- a field that was not there ends the reading
+pub stopped : (v : Version) (f : Field) (fs : List Field) (at : ℕ) (r : Record) (l : List ℕ) → Refused ≡ stepTo v f at r (decode (formatOf v f) (drop at l))
+    → readOn v (f ∷ fs) at r l ≡ answer.Refused RECORD
+unfolding readOn decodeAll
+stopped v f fs at r l e = go (decode (formatOf v f) (drop at l)) e
+  where
+    go : (d : Decoded (ValueOf (formatOf v f))) → Refused ≡ stepTo v f at r d
+        → ending v (f ∷ fs) at r (onFound (λ a more. onFound (inFront a) (decodeAll (formsOf v fs) more)) d) ≡ answer.Refused RECORD
+    go nothing e = refl
+    go (found x rest) e = cc
+
+-- where no field is left, no byte may be
+pub ended : (v : Version) (at : ℕ) (r : Record) (l : List ℕ) → length l ≤ at → readOn v [] at r l ≡ answer.Fits r
+unfolding readOn decodeAll
+ended v at r l h = rw (drop-of-length-le l h)
+
+pub left-over : (v : Version) (at : ℕ) (r : Record) (l : List ℕ) → at < length l → readOn v [] at r l ≡ answer.Refused RECORD
+unfolding readOn decodeAll
+left-over v at r l h = rw (drop-cons l at 0 h)
+
+-- the fields from i on, out of the array
+pub field-at : (fs : List Field) (i : ℕ) → i < length fs → drop i fs ≡ getD (padded fs) i its.Account ∷ drop (suc i) fs
+field-at fs i h = drop-cons fs i its.Account h ∙ ap (λ (f : Field). f ∷ drop (suc i) fs) (sym (List·getD-append fs _ its.Account i h))
+
+-- the kind of a record, then its fields
+read-kind : (b : ℕ) (l : List ℕ) (k : Kind) → kindAmong b (kinds v01) ≡ some k → readAt v01 (b ∷ l) ≡ readOn v01 (fieldsOf v01 k) 1 (blank k) (b ∷ l)
+unfolding readAt parse readOn
+read-kind b l k e = ap (λ (o : Option Kind). readingOf v01 (parseKind v01 o l)) e ∙ go (decodeAll (formsOf v01 (fieldsOf v01 k)) l)
+  where
+    go : (d : Decoded (ValuesOf (formsOf v01 (fieldsOf v01 k)))) → readingOf v01 (whole v01 k d) ≡ ending v01 (fieldsOf v01 k) 1 (blank k) d
+    go nothing = refl
+    go (found x []) = refl
+    go (found x (c ∷ m)) = refl
+
+read-unknown : (b : ℕ) (l : List ℕ) → kindAmong b (kinds v01) ≡ none → readAt v01 (b ∷ l) ≡ answer.Refused RECORD
+unfolding readAt parse
+read-unknown b l e = ap (λ (o : Option Kind). readingOf v01 (parseKind v01 o l)) e
+
+pub named-kind : (o : Option Kind) (k : Kind) → a.Kind k ≡ namedBy o → o ≡ some k
+named-kind none k e = cc
+named-kind (some j) k e = let z : k ≡ j = cc in ap some (sym z)
+
+pub named-none : (o : Option Kind) → a.Unknown ≡ namedBy o → o ≡ none
+named-none none e = refl
+named-none (some j) e = cc
+
+-- what the first byte decides, if there is one
+pub read-empty : (l : List ℕ) → length l < 1 → readAt v01 l ≡ answer.Refused RECORD
+unfolding readAt parse
+read-empty [] h = refl
+read-empty (b ∷ l) h = absurd (omega arith)
+
+pub read-known : (l : List ℕ) (k : Kind) → 1 ≤ length l → a.Kind k ≡ named (getD l 0 0) → readAt v01 l ≡ readOn v01 (fieldsOf v01 k) 1 (blank k) l
+unfolding named
+read-known [] k h e = absurd (omega arith)
+read-known (b ∷ l) k h e = read-kind b l k (named-kind (kindAmong b (kinds v01)) k e)
+
+pub read-strange : (l : List ℕ) → 1 ≤ length l → a.Unknown ≡ named (getD l 0 0) → readAt v01 l ≡ answer.Refused RECORD
+unfolding named
+read-strange [] h e = absurd (omega arith)
+read-strange (b ∷ l) h e = read-unknown b l (named-none (kindAmong b (kinds v01)) e)

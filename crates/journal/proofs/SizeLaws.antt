@@ -1,0 +1,145 @@
+-- Measuring the fields of a record one after another. Assumes nothing.
+use mathlib.Core.Path.{_≡_, refl, sym, _∙_, ap}
+use mathlib.Core.Bool.{Bool, true, false, _&&_, cond}
+use mathlib.Core.List.{List, [], _∷_, _++_}
+use Prim.Native.Nat.{ℕ, zero, suc, _+_, _-_, _<_, _≤_}
+use native.Mathlib.Omega.{arith}
+use lib.Dec.{leb, eqb}
+use lib.ListN.{length, take, drop, getD, length-append}
+use lib.Seq.{take-at, drop-cons, getD-take, length-take-le}
+use borrow.Author.Tests.{le-leb, lt-leb, eq-eqb, ne-eqb}
+use Rattle.amount.specs.declared.Cap.the-variants.{Unlimited, Bytes as Count}
+use Rattle.rules.specs.declared.Mode.{Mode}
+use Rattle.rules.specs.declared.Mode.the-variants as right
+use Rattle.rules.specs.Scope.{modeNumber}
+use Rattle.journal.specs.declared.Field.{Field}
+use Rattle.journal.specs.declared.Field.the-variants as its
+use Rattle.journal.specs.declared.Fields.{Fields}
+use Rattle.journal.specs.declared.Size.{Size}
+use Rattle.journal.specs.declared.Size.the-variants.{Bytes, Bad}
+use Rattle.journal.specs.Numbers.{bytesOf}
+use Rattle.journal.specs.NumberLaws.{length-bytesOf}
+use Rattle.journal.specs.Fields.{encode, capBytes}
+use Rattle.journal.specs.Records.{v01}
+use Rattle.journal.specs.Table.{padded, fieldsMost}
+use Rattle.journal.specs.Writes.{valueIn, modeIn, givable, givableAll, fieldBytes, fieldsBytes, fieldSize, fieldsSize}
+
+-- ---- a kind's fields out of their array
+
+pub fields-taken : (fs fields : List Field) (count : ℕ) → fields ≡ padded fs → count ≡ length fs → take count fields ≡ fs
+fields-taken fs fields count e n = rw (e, n) (take-at fs _ (length fs) refl)
+
+pub count-within : (fs fields : List Field) (count : ℕ) → fields ≡ padded fs → count ≡ length fs → count ≤ length fields
+count-within fs fields count e n = rw e (omega (arith, length-append fs (lib.ListN.replicate (fieldsMost - length fs) its.None)))
+
+pub field-in : (fields : List Field) (count i : ℕ) → i < count → count ≤ length fields
+    → drop i (take count fields) ≡ getD fields i its.Account ∷ drop (suc i) (take count fields)
+field-in fields count i h k =
+    drop-cons (take count fields) i its.Account (rw (length-take-le count fields k) h)
+    ∙ ap (λ (f : Field). f ∷ drop (suc i) (take count fields)) (getD-take count fields i its.Account h)
+
+-- ---- the size of one field
+
+pub size-ok : (f : Field) (d : Fields) (t : List ℕ) (k : ℕ) → givable v01 f d t ≡ true → length (fieldBytes v01 f d t) ≡ k → Bytes k ≡ fieldSize v01 f d t
+unfolding fieldSize
+size-ok f d t k g e = rw (g, e)
+
+pub size-no : (f : Field) (d : Fields) (t : List ℕ) → givable v01 f d t ≡ false → Bad ≡ fieldSize v01 f d t
+unfolding fieldSize
+size-no f d t g = rw g
+
+-- the bytes of each field
+pub no-bytes : (d : Fields) (t : List ℕ) → fieldBytes v01 its.No d t ≡ bytesOf 4 (d .no)
+unfolding fieldBytes encode
+no-bytes d t = refl
+
+pub slot-bytes : (d : Fields) (t : List ℕ) → fieldBytes v01 its.Slot d t ≡ bytesOf 1 (d .slot)
+unfolding fieldBytes encode
+slot-bytes d t = refl
+
+pub k-bytes : (d : Fields) (t : List ℕ) → fieldBytes v01 its.K d t ≡ bytesOf 1 (d .k)
+unfolding fieldBytes encode
+k-bytes d t = refl
+
+pub m-bytes : (d : Fields) (t : List ℕ) → fieldBytes v01 its.M d t ≡ bytesOf 1 (d .m)
+unfolding fieldBytes encode
+m-bytes d t = refl
+
+pub amount-bytes : (d : Fields) (t : List ℕ) → fieldBytes v01 its.Amount d t ≡ bytesOf 8 (d .amount)
+unfolding fieldBytes encode
+amount-bytes d t = refl
+
+pub from-bytes : (d : Fields) (t : List ℕ) → fieldBytes v01 its.From d t ≡ bytesOf 8 (d .«from»)
+unfolding fieldBytes encode
+from-bytes d t = refl
+
+pub until-bytes : (d : Fields) (t : List ℕ) → fieldBytes v01 its.Until d t ≡ bytesOf 8 (d .until)
+unfolding fieldBytes encode
+until-bytes d t = refl
+
+pub account-bytes : (d : Fields) (t : List ℕ) → fieldBytes v01 its.Account d t ≡ d .account
+unfolding fieldBytes encode
+account-bytes d t = refl
+
+pub hash-bytes : (d : Fields) (t : List ℕ) → fieldBytes v01 its.Hash d t ≡ d .hash
+unfolding fieldBytes encode
+hash-bytes d t = refl
+
+pub text-bytes : (d : Fields) (t : List ℕ) → fieldBytes v01 its.Text d t ≡ bytesOf 1 (length t) ++ t
+unfolding fieldBytes encode
+text-bytes d t = refl
+
+pub cap-bytes : (d : Fields) (t : List ℕ) → fieldBytes v01 its.Cap d t ≡ capBytes (d .cap)
+unfolding fieldBytes encode
+cap-bytes d t = refl
+
+pub none-bytes : (d : Fields) (t : List ℕ) → fieldBytes v01 its.None d t ≡ []
+unfolding fieldBytes encode
+none-bytes d t = refl
+
+-- a mode's number is its byte
+mode-number : (n : ℕ) → n ≤ 2 → modeNumber (modeIn n) ≡ n
+mode-number zero h = refl
+mode-number (suc zero) h = refl
+mode-number (suc (suc zero)) h = refl
+mode-number (suc (suc (suc n))) h = absurd (omega arith)
+
+pub mode-bytes : (d : Fields) (t : List ℕ) → d .mode ≤ 2 → fieldBytes v01 its.Mode d t ≡ bytesOf 1 (d .mode)
+unfolding fieldBytes encode
+mode-bytes d t h = ap (bytesOf 1) (mode-number (d .mode) h)
+
+-- ---- the size of a list of fields
+
+size-inv : (f : Field) (d : Fields) (t : List ℕ) (g : Bool) (k : ℕ) → cond g (Bytes (length (fieldBytes v01 f d t))) Bad ≡ Bytes k
+    → (g ≡ true) × (length (fieldBytes v01 f d t) ≡ k)
+size-inv f d t true k e = (refl, cc)
+size-inv f d t false k e = let z : _≡_ {A = ℕ} 0 1 = cc in absurd (omega arith)
+
+pub size-more : (f : Field) (fs : List Field) (d : Fields) (t : List ℕ) (n k : ℕ) → fieldSize v01 f d t ≡ Bytes k
+    → fieldsSize v01 n (f ∷ fs) d t ≡ fieldsSize v01 (n + k) fs d t
+unfolding fieldSize fieldsSize givableAll fieldsBytes
+size-more f fs d t n k e =
+    let p = size-inv f d t (givable v01 f d t) k e in
+    let z : n + length (fieldBytes v01 f d t ++ fieldsBytes v01 fs d t) ≡ n + k + length (fieldsBytes v01 fs d t) =
+    omega (arith, length-append (fieldBytes v01 f d t) (fieldsBytes v01 fs d t), p .1) in
+    rw (p .0, z)
+
+pub size-stop : (f : Field) (fs : List Field) (d : Fields) (t : List ℕ) (n : ℕ) → fieldSize v01 f d t ≡ Bad → fieldsSize v01 n (f ∷ fs) d t ≡ Bad
+unfolding fieldSize fieldsSize givableAll
+size-stop f fs d t n e = go (givable v01 f d t) refl e
+  where
+    go : (g : Bool) → givable v01 f d t ≡ g → cond g (Bytes (length (fieldBytes v01 f d t))) Bad ≡ Bad
+        → cond (givable v01 f d t && givableAll v01 fs d t) (Bytes (n + length (fieldsBytes v01 (f ∷ fs) d t))) Bad ≡ Bad
+    go true q e = cc
+    go false q e = rw q
+
+pub size-end : (d : Fields) (t : List ℕ) (n : ℕ) → fieldsSize v01 n [] d t ≡ Bytes n
+unfolding fieldsSize givableAll fieldsBytes
+size-end d t n = let z : n + 0 ≡ n = omega arith in ap Bytes z
+
+-- how long a cap's bytes are
+pub unlimited-length : length (capBytes Unlimited) ≡ 1
+unlimited-length = length-bytesOf 1 0
+
+pub count-length : (n : ℕ) → length (capBytes (Count n)) ≡ 9
+count-length n = length-append (bytesOf 1 1) (bytesOf 8 n) ∙ rw (length-bytesOf 1 1, length-bytesOf 8 n)

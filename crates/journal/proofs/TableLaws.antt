@@ -1,0 +1,73 @@
+-- The kinds stand in the order of their numbers, so a number is a place in their list. Assumes nothing.
+use mathlib.Core.Path.{_≡_, refl, sym, _∙_, ap}
+use mathlib.Core.Bool.{Bool, true, false, _&&_, cond}
+use mathlib.Core.List.{List, [], _∷_, map}
+use mathlib.Core.Option.{Option, none, some}
+use mathlib.Core.Logic.{_⊎_, inl, inr, ⊎-elim}
+use Prim.Native.Nat.{ℕ, zero, suc, _+_, _-_, _<_, _≤_}
+use native.Mathlib.Nat.{add-zero, add-suc, suc-add}
+use native.Mathlib.Omega.{arith}
+use lib.Dec.{eqb}
+use lib.ListN.{length, getD}
+use borrow.Author.Tests.{eq-eqb, ne-eqb, eqb-true}
+use Rattle.journal.specs.declared.Kind.{Kind}
+use Rattle.journal.specs.declared.Kind.the-variants.{Advance, Create, Deposit, Delete, Undelete, Grant, Attenuate, Revoke, Open, Stage, Commit, Abandon, Remove, Look, Register, Heartbeat}
+use Rattle.journal.specs.declared.Field.{Field}
+use Rattle.journal.specs.NumberLaws.{and-left, and-right}
+use Rattle.journal.specs.Records.{v01, fieldsOf, kindNumber, kinds, kindAmong}
+use Rattle.journal.specs.Table.{padded}
+
+-- the kinds are numbered one after another from i
+abbrev pub numberedFrom : ℕ → List Kind → Bool
+numberedFrom i [] = true
+numberedFrom i (k ∷ ks) = eqb (kindNumber k) i && numberedFrom (suc i) ks
+
+pub kind-at : (i : ℕ) (ks : List Kind) (j : ℕ) (d : Kind) → numberedFrom i ks ≡ true → j < length ks → kindAmong (i + j) ks ≡ some (getD ks j d)
+unfolding kindAmong
+kind-at i [] j d t h = absurd (omega arith)
+kind-at i (k ∷ ks) zero d t h =
+    let e : kindNumber k ≡ i = eqb-true _ _ (and-left (eqb (kindNumber k) i) _ t) in
+    let q : i + zero ≡ kindNumber k = omega arith in
+    rw (eq-eqb (i + zero) (kindNumber k) q)
+kind-at i (k ∷ ks) (suc j) d t h =
+    let e : kindNumber k ≡ i = eqb-true _ _ (and-left (eqb (kindNumber k) i) _ t) in
+    let n : i + suc j ≡ kindNumber k → ⊥ = λ (z : i + suc j ≡ kindNumber k). omega arith in
+    rw (ne-eqb (i + suc j) (kindNumber k) n)
+    (ap (λ (m : ℕ). kindAmong m ks) (add-suc i j ∙ sym (suc-add i j)) ∙ kind-at (suc i) ks j d (and-right (eqb (kindNumber k) i) _ t) (omega arith))
+
+-- a number before or after all of theirs
+pub no-kind : (i n : ℕ) (ks : List Kind) → numberedFrom i ks ≡ true → (n < i) ⊎ (i + length ks ≤ n) → kindAmong n ks ≡ none
+unfolding kindAmong
+no-kind i n [] t h = refl
+no-kind i n (k ∷ ks) t h =
+    let e : kindNumber k ≡ i = eqb-true _ _ (and-left (eqb (kindNumber k) i) _ t) in
+    let ne : n ≡ kindNumber k → ⊥ = λ (z : n ≡ kindNumber k). ⊎-elim (λ (a : n < i). omega arith) (λ (b : i + suc (length ks) ≤ n). omega arith) h in
+    let r : (n < suc i) ⊎ (suc i + length ks ≤ n) = ⊎-elim (λ (a : n < i). inl (omega arith)) (λ (b : i + suc (length ks) ≤ n). inr (omega arith)) h in
+    rw (ne-eqb n (kindNumber k) ne) (no-kind (suc i) n ks (and-right (eqb (kindNumber k) i) _ t) r)
+
+-- the fields of the kinds, in the kinds' order
+abbrev pub rows : List (List Field)
+rows = map (λ k. padded (fieldsOf v01 k)) (kinds v01)
+
+row : (k : Kind) → getD rows (kindNumber k - 1) [] ≡ padded (fieldsOf v01 k)
+row Advance = refl
+row Create = refl
+row Deposit = refl
+row Delete = refl
+row Undelete = refl
+row Grant = refl
+row Attenuate = refl
+row Revoke = refl
+row Open = refl
+row Stage = refl
+row Commit = refl
+row Abandon = refl
+row Remove = refl
+row Look = refl
+row Register = refl
+row Heartbeat = refl
+
+pub row-at : (k : Kind) (i : ℕ) → i + 1 ≡ kindNumber k → getD rows i [] ≡ padded (fieldsOf v01 k)
+row-at k i e =
+    let p : i ≡ kindNumber k - 1 = omega arith in
+    ap (λ (j : ℕ). getD rows j []) p ∙ row k

@@ -1,0 +1,182 @@
+-- Writing the fields of a record one after another, and the whole record. Assumes nothing.
+use mathlib.Core.Path.{_≡_, refl, sym, _∙_, ap}
+use mathlib.Core.Bool.{Bool, true, false, _&&_, cond}
+use mathlib.Core.List.{List, [], _∷_, _++_}
+use mathlib.Core.Option.{Option, none, some}
+use Prim.Native.Nat.{ℕ, zero, suc, _+_, _-_, _%_, _<_, _≤_}
+use native.Mathlib.Nat.{mod-eq-of-lt}
+use native.Mathlib.Omega.{arith}
+use lib.Dec.{leb, lit<}
+use lib.ListN.{length, take, drop, length-append}
+use borrow.Author.Tests.{le-leb, lt-leb}
+use Rattle.rules.specs.Numbers.{BAD, ROOM}
+use Rattle.journal.specs.declared.Kind.{Kind}
+use Rattle.journal.specs.declared.Kind.the-variants.{Advance, Create, Deposit, Delete, Undelete, Grant, Attenuate, Revoke, Open, Stage, Commit, Abandon, Remove, Look, Register, Heartbeat}
+use Rattle.journal.specs.declared.Field.{Field}
+use Rattle.journal.specs.declared.Fields.{Fields}
+use Rattle.journal.specs.declared.Named.the-variants as a
+use Rattle.journal.specs.declared.Size.{Size}
+use Rattle.journal.specs.declared.Size.the-variants.{Bytes, Bad}
+use Rattle.journal.specs.declared.Written.{Written}
+use Rattle.journal.specs.Numbers.{bytesOf}
+use Rattle.journal.specs.NumberLaws.{and-left, and-right, length-bytesOf}
+use Rattle.journal.specs.Fields.{text, encode, encodeAll}
+use Rattle.journal.specs.Records.{v01, fieldsOf, formsOf, kinds, kindNumber, kindAmong, kindNumbered, recordBytes}
+use Rattle.journal.specs.RecordLaws.{kind-of-number}
+use Rattle.journal.specs.Table.{named, namedBy}
+use Rattle.journal.specs.Writes.{valuesIn, givable, givableAll, inFrame, kindIn, recordIn, over, answerOf, bufferOf, fieldBytes, fieldsBytes, fieldsSize}
+use Rattle.journal.proofs.OverLaws.{over-none, over-over, over-pair, length-over}
+use Rattle.journal.proofs.ReadLaws.{named-kind, named-none}
+
+-- ---- one field after another
+
+-- what is left before a field, and after it
+pub record Put (f : Field) (fs : List Field) (d : Fields) (t : List ℕ) (at : ℕ) (out : List ℕ) : Type 0 where
+  pub one : at + length (fieldBytes v01 f d t) ≤ length out
+  pub given : givable v01 f d t ≡ true
+  pub rest : at + length (fieldBytes v01 f d t) + length (fieldsBytes v01 fs d t) ≤ length out
+  pub more : givableAll v01 fs d t ≡ true
+  pub same : over (at + length (fieldBytes v01 f d t)) (fieldsBytes v01 fs d t) (over at (fieldBytes v01 f d t) out) ≡ over at (fieldsBytes v01 (f ∷ fs) d t) out
+
+pub put : (f : Field) (fs : List Field) (d : Fields) (t : List ℕ) (at : ℕ) (out : List ℕ) → at + length (fieldsBytes v01 (f ∷ fs) d t) ≤ length out
+    → givableAll v01 (f ∷ fs) d t ≡ true → Put f fs d t at out
+unfolding fieldsBytes givableAll
+put f fs d t at out h g =
+    let b = fieldBytes v01 f d t in
+    let bs = fieldsBytes v01 fs d t in
+    let one : at + length b ≤ length out = omega (arith, length-append b bs) in
+    record {
+      one = one;
+      given = and-left (givable v01 f d t) _ g;
+      rest = omega (arith, length-append b bs);
+      more = and-right (givable v01 f d t) _ g;
+      same = over-over at b bs out one;
+    }
+
+pub put-end : (d : Fields) (t : List ℕ) (at : ℕ) (out : List ℕ) → over at (fieldsBytes v01 [] d t) out ≡ out
+unfolding fieldsBytes
+put-end d t at out = over-none at out
+
+-- ---- the whole record
+
+bytes-encode : (fs : List Field) (d : Fields) (t : List ℕ) → fieldsBytes v01 fs d t ≡ encodeAll (formsOf v01 fs) (valuesIn v01 fs d t)
+unfolding fieldsBytes fieldBytes encodeAll
+bytes-encode [] d t = refl
+bytes-encode (f ∷ fs) d t = ap (λ (m : List ℕ). fieldBytes v01 f d t ++ m) (bytes-encode fs d t)
+
+-- the record's bytes as the code writes them: length, kind, fields
+abbrev pub laid : Kind → Fields → List ℕ → List ℕ
+laid k d t = bytesOf 2 (1 + length (fieldsBytes v01 (fieldsOf v01 k) d t)) ++ (bytesOf 1 (d .kind) ++ fieldsBytes v01 (fieldsOf v01 k) d t)
+
+pub unknown : (d : Fields) (t : List ℕ) → a.Unknown ≡ named (d .kind) → recordIn v01 d t ≡ none
+unfolding recordIn named
+unknown d t e = ap (λ (o : Option Kind). kindIn v01 o d t) (named-none (kindAmong (d .kind) (kinds v01)) e)
+
+known : (d : Fields) (t : List ℕ) (k : Kind) → a.Kind k ≡ named (d .kind) → recordIn v01 d t ≡ kindIn v01 (some k) d t
+unfolding recordIn named
+known d t k e = ap (λ (o : Option Kind). kindIn v01 o d t) (named-kind (kindAmong (d .kind) (kinds v01)) k e)
+
+sizes : (g : Bool) (n k : ℕ) → Bytes k ≡ cond g (Bytes n) Bad → (g ≡ true) × (n ≡ k)
+sizes true n k e = (refl, cc)
+sizes false n k e = let z : _≡_ {A = ℕ} 0 1 = cc in absurd (omega arith)
+
+no-size : (g : Bool) (n : ℕ) → Bad ≡ cond g (Bytes n) Bad → g ≡ false
+no-size true n e = cc
+no-size false n e = refl
+
+pub refused : (d : Fields) (t : List ℕ) (k : Kind) → a.Kind k ≡ named (d .kind) → Bad ≡ fieldsSize v01 0 (fieldsOf v01 k) d t → recordIn v01 d t ≡ none
+unfolding fieldsSize
+refused d t k e s = known d t k e ∙ rw (no-size (givableAll v01 (fieldsOf v01 k) d t) _ s)
+
+-- a record that can be given, of n bytes after its kind
+pub record Laid (d : Fields) (t : List ℕ) (k : Kind) (n : ℕ) : Type 0 where
+  pub bytes : recordIn v01 d t ≡ some (laid k d t)
+  pub all : givableAll v01 (fieldsOf v01 k) d t ≡ true
+  pub len : length (fieldsBytes v01 (fieldsOf v01 k) d t) ≡ n
+  pub whole : length (laid k d t) ≡ n + 3
+
+-- a kind's number is one byte
+kind-lt : (k : Kind) → kindNumber k < 256
+kind-lt Advance = lit< tt
+kind-lt Create = lit< tt
+kind-lt Deposit = lit< tt
+kind-lt Delete = lit< tt
+kind-lt Undelete = lit< tt
+kind-lt Grant = lit< tt
+kind-lt Attenuate = lit< tt
+kind-lt Revoke = lit< tt
+kind-lt Open = lit< tt
+kind-lt Stage = lit< tt
+kind-lt Commit = lit< tt
+kind-lt Abandon = lit< tt
+kind-lt Remove = lit< tt
+kind-lt Look = lit< tt
+kind-lt Register = lit< tt
+kind-lt Heartbeat = lit< tt
+
+frame : (d : Fields) (t : List ℕ) (k : Kind) → d .kind < 256 → d .kind ≡ kindNumber k
+    → inFrame (recordBytes v01 k (valuesIn v01 (fieldsOf v01 k) d t)) ≡ laid k d t
+unfolding recordBytes encode bytesOf
+frame d t k h e =
+    let fs = fieldsOf v01 k in
+    let m : kindNumber k ≡ d .kind % 256 = sym e ∙ sym (mod-eq-of-lt h) in
+    let q : kindNumber k ∷ encodeAll (formsOf v01 fs) (valuesIn v01 fs d t) ≡ (d .kind % 256 ∷ []) ++ fieldsBytes v01 fs d t =
+    ap (λ (x : ℕ). x ∷ encodeAll (formsOf v01 fs) (valuesIn v01 fs d t)) m ∙ ap (λ (l : List ℕ). d .kind % 256 ∷ l) (sym (bytes-encode fs d t)) in
+    let z : suc (length (fieldsBytes v01 fs d t)) ≡ 1 + length (fieldsBytes v01 fs d t) = omega arith in
+    ap inFrame q ∙ ap (λ (j : ℕ). bytesOf 2 j ++ ((d .kind % 256 ∷ []) ++ fieldsBytes v01 fs d t)) z
+
+pub laid-out : (d : Fields) (t : List ℕ) (k : Kind) (n : ℕ) → a.Kind k ≡ named (d .kind) → Bytes n ≡ fieldsSize v01 0 (fieldsOf v01 k) d t → Laid d t k n
+unfolding fieldsSize named
+laid-out d t k n e s =
+    let fs = fieldsOf v01 k in
+    let p = sizes (givableAll v01 fs d t) (0 + length (fieldsBytes v01 fs d t)) n s in
+    let c : d .kind ≡ kindNumber k = kind-of-number (d .kind) (kinds v01) k (named-kind (kindAmong (d .kind) (kinds v01)) k e) in
+    let b : recordIn v01 d t ≡ some (laid k d t) = known d t k e ∙ rw (p .0) (ap some (frame d t k (rw c (kind-lt k)) c)) in
+    let l : length (fieldsBytes v01 fs d t) ≡ n = omega (arith, p .1) in
+    record {
+      bytes = b;
+      all = p .0;
+      len = l;
+      whole =
+          length-append (bytesOf 2 (1 + length (fieldsBytes v01 fs d t))) (bytesOf 1 (d .kind) ++ fieldsBytes v01 fs d t)
+          ∙ omega (arith, length-bytesOf 2 (1 + length (fieldsBytes v01 fs d t)), length-append (bytesOf 1 (d .kind)) (fieldsBytes v01 fs d t), length-bytesOf 1 (d .kind));
+    }
+
+-- the three pieces, one after another, are the record
+pub pieces : (d : Fields) (t : List ℕ) (k : Kind) (n : ℕ) (out : List ℕ) → length (fieldsBytes v01 (fieldsOf v01 k) d t) ≡ n → n + 3 ≤ length out
+    → over 3 (fieldsBytes v01 (fieldsOf v01 k) d t) (over 2 (bytesOf 1 (d .kind)) (over 0 (bytesOf 2 (n + 1)) out)) ≡ over 0 (laid k d t) out
+pieces d t k n out e h =
+    let f = fieldsBytes v01 (fieldsOf v01 k) d t in
+    let two = over 0 (bytesOf 2 (n + 1)) out in
+    let l : length two ≡ length out = length-over 0 (bytesOf 2 (n + 1)) out (omega (arith, length-bytesOf 2 (n + 1))) in
+    let z : n + 1 ≡ 1 + length f = omega arith in
+    over-pair 2 1 (bytesOf 1 (d .kind)) f two (length-bytesOf 1 (d .kind)) (omega arith)
+    ∙ over-pair 0 2 (bytesOf 2 (n + 1)) (bytesOf 1 (d .kind) ++ f) out (length-bytesOf 2 (n + 1)) (omega arith)
+    ∙ ap (λ (j : ℕ). over 0 (bytesOf 2 j ++ (bytesOf 1 (d .kind) ++ f)) out) z
+
+-- the answer and the buffer of a record that fits, and of one that does not
+pub record Done (d : Fields) (t out : List ℕ) (n : ℕ) (b : List ℕ) : Type 0 where
+  pub answer : answerOf (recordIn v01 d t) (length out) ≡ record { number = 0; len = n + 3 }
+  pub buffer : bufferOf (recordIn v01 d t) out ≡ over 0 b out
+
+pub done : (d : Fields) (t out : List ℕ) (k : Kind) (n : ℕ) → Laid d t k n → n + 3 ≤ length out → Done d t out n (laid k d t)
+done d t out k n l h =
+    let g : leb (length (laid k d t)) (length out) ≡ true = rw (l .whole) (le-leb (n + 3) (length out) h) in
+    let q : _≡_ {A = Written} (record { number = 0; len = length (laid k d t) }) (record { number = 0; len = n + 3 }) =
+    ap (λ (j : ℕ). record { number = 0; len = j }) (l .whole) in
+    record {
+      answer = rw (l .bytes, g) q;
+      buffer = rw (l .bytes, g);
+    }
+
+pub record Short (d : Fields) (t out : List ℕ) : Type 0 where
+  pub answer : answerOf (recordIn v01 d t) (length out) ≡ record { number = ROOM; len = 0 }
+  pub buffer : bufferOf (recordIn v01 d t) out ≡ out
+
+pub short : (d : Fields) (t out : List ℕ) (k : Kind) (n : ℕ) → Laid d t k n → length out < n + 3 → Short d t out
+short d t out k n l h =
+    let g : leb (length (laid k d t)) (length out) ≡ false = rw (l .whole) (lt-leb (n + 3) (length out) h) in
+    record {
+      answer = rw (l .bytes, g);
+      buffer = rw (l .bytes, g);
+    }

@@ -1,0 +1,114 @@
+-- Document 01, "Journal": the frame of records, and the calls that a whole journal holds. Assumes nothing.
+use mathlib.Core.Bool.{Bool, true, false, cond}
+use mathlib.Core.List.{List, [], _∷_}
+use mathlib.Core.Option.{Option, none, some}
+use Prim.Native.Nat.{ℕ, zero, suc, _+_}
+use lib.Dec.{eqb, ltb}
+use lib.ListN.{length}
+use Rattle.rules.specs.Calls.{Call}
+use Rattle.journal.specs.declared.Record.{Record}
+use Rattle.journal.specs.declared.Reading.{Reading}
+use Rattle.journal.specs.declared.Reading.the-variants.{Fits, Refused}
+use Rattle.journal.specs.declared.Next.{Next}
+use Rattle.journal.specs.declared.Next.the-variants.{End, Whole, Stop}
+use Rattle.journal.specs.Fields.{Decoded, nothing, found, text, decode}
+use Rattle.journal.specs.Records.{Version, v01, readRecord}
+use Rattle.journal.specs.Places.{RECORD, readAt}
+
+-- 24: "A journal above 65,536 bytes"
+abbrev pub journalMost : ℕ
+journalMost = 65536
+
+abbrev pub TOO-LARGE : ℕ
+TOO-LARGE = 24
+
+-- 28: "Missing or other version byte"
+abbrev pub VERSION : ℕ
+VERSION = 28
+
+-- "u16 length, then kind and fields, exactly that long": a record in its frame is a text with a length of two bytes
+abbrev pub framed : List ℕ → Decoded (List ℕ)
+framed l = decode (text 2 65535) l
+
+-- how the reading of a journal ends
+pub data Ending : Type 0 where
+  end : Ending
+  stop : ℕ → Ending
+
+-- the calls of the whole records before the first fault, and the ending
+pub record Contents : Type 0 where
+  pub calls : List Call
+  pub ending : Ending
+
+abbrev pub stopped : ℕ → Contents
+stopped n = record { calls = []; ending = stop n }
+
+abbrev pub ended : Contents
+ended = record { calls = []; ending = end }
+
+abbrev pub after : Call → Contents → Contents
+after c j = record { calls = c ∷ j .calls; ending = j .ending }
+
+-- a record that was read, then the rest; 27 where it stands for no call
+abbrev pub onCall : Option Call → Contents → Contents
+onCall none more = stopped RECORD
+onCall (some c) more = after c more
+
+-- a record in its frame, then the rest; 27 where it is cut
+abbrev pub onFrame : Version → (List ℕ → Contents) → Decoded (List ℕ) → Contents
+onFrame v more nothing = stopped RECORD
+onFrame v more (found body rest) = onCall (readRecord v body) (more rest)
+
+-- the end, or a record and the rest
+abbrev pub onMore : Version → (List ℕ → Contents) → List ℕ → Contents
+onMore v more [] = ended
+onMore v more (b ∷ l) = onFrame v more (framed (b ∷ l))
+
+-- the records of a list of at most so many bytes
+unfoldable pub recordsIn : Version → ℕ → List ℕ → Contents
+recordsIn v zero l = ended
+recordsIn v (suc n) l = onMore v (λ rest. recordsIn v n rest) l
+
+-- the records that follow a version byte
+abbrev pub records : Version → List ℕ → Contents
+records v l = recordsIn v (length l) l
+
+abbrev pub versionNumbered : ℕ → Option Version
+versionNumbered n = cond (eqb n 0x01) (some v01) none
+
+abbrev pub onVersion : Option Version → List ℕ → Contents
+onVersion none l = stopped VERSION
+onVersion (some v) l = records v l
+
+-- "One version byte 01, then records"
+abbrev pub versioned : List ℕ → Contents
+versioned [] = stopped VERSION
+versioned (b ∷ l) = onVersion (versionNumbered b) l
+
+-- what a journal holds: 24 before 28, and before any record
+unfoldable pub contents : List ℕ → Contents
+contents l = cond (ltb journalMost (length l)) (stopped TOO-LARGE) (versioned l)
+
+-- ---- as the code takes a journal apart
+
+-- 0, or the number of a journal that has no records to read
+abbrev pub versionFault : List ℕ → ℕ
+versionFault [] = VERSION
+versionFault (b ∷ l) = cond (eqb b 0x01) 0 VERSION
+
+unfoldable pub startFault : List ℕ → ℕ
+startFault l = cond (ltb journalMost (length l)) TOO-LARGE (versionFault l)
+
+-- a record's reading, with how many bytes the length and the record have
+abbrev pub onReading : List ℕ → Reading → Next
+onReading body (Fits r) = Whole r (2 + length body)
+onReading body (Refused n) = Stop n
+
+abbrev pub onBody : Version → Decoded (List ℕ) → Next
+onBody v nothing = Stop RECORD
+onBody v (found body rest) = onReading body (readAt v body)
+
+-- what stands next in the records: nothing, a whole record, or a fault
+unfoldable pub nextIn : Version → List ℕ → Next
+nextIn v [] = End
+nextIn v (b ∷ l) = onBody v (framed (b ∷ l))

@@ -1,0 +1,12 @@
+pub mod Numbers
+pub mod NumberLaws
+pub mod Fields
+pub mod FieldLaws
+pub mod Records
+pub mod RecordLaws
+pub mod Places
+pub mod PlaceLaws
+pub mod Table
+pub mod Journal
+pub mod Writes
+pub mod Theorems
