@@ -8,7 +8,6 @@ ghost use Rattle.rules.specs.declared.Tables.{Tables};
 ghost use Rattle.rules.specs.Relays.{shardBytes, bytesOn, shardsOn};
 ghost use Rattle.rules.specs.Sound.{soundVolumes, soundEntries, soundRelay, soundRelays, sameRelayRow};
 ghost use Rattle.rows.specs.Blank.{blankEntry};
-use super::shards::Load;
 use super::shards::load_of;
 use super::shards::shard_sizes;
 use rows::any_relay;
@@ -16,9 +15,9 @@ use rows::is_given;
 use rules::Relay;
 use rules::Tables;
 
-// A row, where the entries have this load on the relay.
-fn sound_relay(x: Relay, load: Load, last: u32, clock: u64) -> bool
-    ensures { λ r. ⌜ ((t : Tables) → t .«last_relay» ≡ last → t .clock ≡ clock → load .bytes ≡ sumOf (bytesOn (t .volumes) (x .no)) (t .entries) → load .shards ≡ sumOf (shardsOn (x .no)) (t .entries) → r ≡ soundRelay t x) ⌝ }
+// A row, where the entries have these bytes and shards on the relay.
+fn sound_relay(x: Relay, bytes: u64, shards: u32, last: u32, clock: u64) -> bool
+    ensures { λ r. ⌜ ((t : Tables) → t .«last_relay» ≡ last → t .clock ≡ clock → bytes ≡ sumOf (bytesOn (t .volumes) (x .no)) (t .entries) → shards ≡ sumOf (shardsOn (x .no)) (t .entries) → r ≡ soundRelay t x) ⌝ }
 {
     if x.no.0 == 0 {
         return true;
@@ -35,10 +34,10 @@ fn sound_relay(x: Relay, load: Load, last: u32, clock: u64) -> bool
     if clock < x.beat {
         return false;
     }
-    if x.used != load.bytes {
+    if x.used != bytes {
         return false;
     }
-    x.held == load.shards
+    x.held == shards
 }
 
 // Of tables whose shards have these sizes.
@@ -53,7 +52,7 @@ fn all_relays(t: Tables, sizes: [u64; 64]) -> bool
         let x = rows[i];
         let n = x.no;
         let load = load_of(entries, sizes, n);
-        if !sound_relay(x, load, t.last_relay, t.clock) {
+        if !sound_relay(x, load.bytes, load.shards, t.last_relay, t.clock) {
             return false;
         }
         i += 1;
