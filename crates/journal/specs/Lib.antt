@@ -8,5 +8,7 @@ pub mod Places
 pub mod PlaceLaws
 pub mod Table
 pub mod Journal
+pub mod JournalLaws
 pub mod Writes
+pub mod WriteLaws
 pub mod Theorems

@@ -1,13 +1,22 @@
 -- What is proved of the journal's records, for every version. Assumes nothing.
 use mathlib.Core.Path.{_≡_, refl, sym, _∙_, ap}
-use mathlib.Core.Bool.{Bool, true, false}
-use mathlib.Core.List.{List}
+use mathlib.Core.Bool.{Bool, true, false, cond}
+use mathlib.Core.List.{List, _++_}
 use mathlib.Core.Option.{Option, none, some}
 use Prim.Native.Nat.{ℕ}
+use native.Mathlib.Omega.{arith}
 use lib.Pow.{areBytes}
 use Rattle.rules.specs.Calls.{Call}
-use Rattle.journal.specs.Records.{Version, kindOf, valuesOf, parse, parsed, callParsed, readRecord, recordBytes, writeRecord, writable}
+use Rattle.journal.specs.declared.Kind.{Kind}
+use Rattle.journal.specs.declared.Fields.{Fields}
+use Rattle.journal.specs.Fields.{found}
+use Rattle.journal.specs.Records.{Version, v01, fieldsOf, kindNumbered, callOf, kindOf, valuesOf, parse, parsed, callParsed, readRecord, recordBytes, writeRecord, writable}
 use Rattle.journal.specs.RecordLaws.{call-of-values, parse-record, parse-given, call-parsed}
+use Rattle.journal.specs.Places.{readAt, callRead}
+use Rattle.journal.specs.PlaceLaws.{reading-is-call}
+use Rattle.journal.specs.Journal.{framed}
+use Rattle.journal.specs.Writes.{valuesIn, givableAll, inFrame, kindIn, recordIn}
+use Rattle.journal.specs.WriteLaws.{Sized, frame-found, record-read}
 
 -- what is written reads back as the same call, for every call that can be written
 pub written-reads-back : (v : Version) (c : Call) → writable v c ≡ true → readRecord v (writeRecord v c) ≡ some c
@@ -31,3 +40,34 @@ one-reading v l c d p q = cc
 -- a call has one record: no other bytes read as it
 pub one-record : (v : Version) (l m : List ℕ) (c : Call) → areBytes l ≡ true → areBytes m ≡ true → readRecord v l ≡ some c → readRecord v m ≡ some c → l ≡ m
 one-record v l m c hl hm p q = sym (read-writes-back v l c hl p) ∙ read-writes-back v m c hm q
+
+-- what the reader answers to a list of bytes stands for the call of those bytes, or for none
+pub reader-gives-the-call : (v : Version) (l : List ℕ) → areBytes l ≡ true → callRead v (readAt v l) l ≡ readRecord v l
+reader-gives-the-call v l h = reading-is-call v l h
+
+-- a record that the writer is given, written: the frame gives its bytes back, whatever follows, and they read as its call
+pub record ReadsBack (d : Fields) (t b rest : List ℕ) : Type 0 where
+  pub kind : Kind
+  pub numbered : kindNumbered v01 (d .kind) ≡ some kind
+  pub framed-again : framed (b ++ rest) ≡ found (recordBytes v01 kind (valuesIn v01 (fieldsOf v01 kind) d t)) rest
+  pub read-again : readRecord v01 (recordBytes v01 kind (valuesIn v01 (fieldsOf v01 kind) d t)) ≡ some (callOf v01 kind (valuesIn v01 (fieldsOf v01 kind) d t))
+
+pub writer-reads-back : (d : Fields) (t b rest : List ℕ) → Sized d → recordIn v01 d t ≡ some b → ReadsBack d t b rest
+unfolding recordIn
+writer-reads-back d t b rest s e = by-kind (kindNumbered v01 (d .kind)) refl e
+  where
+    given : (k : Kind) (g : Bool) → kindNumbered v01 (d .kind) ≡ some k → givableAll v01 (fieldsOf v01 k) d t ≡ g
+        → cond g (some (inFrame (recordBytes v01 k (valuesIn v01 (fieldsOf v01 k) d t)))) none ≡ some b → ReadsBack d t b rest
+    given k true n g e =
+        let eb : inFrame (recordBytes v01 k (valuesIn v01 (fieldsOf v01 k) d t)) ≡ b = cc in
+        record {
+          kind = k;
+          numbered = n;
+          framed-again = rw (← eb) (frame-found k d t rest s g);
+          read-again = record-read k d t s g;
+        }
+    given k false n g e = let z : _≡_ {A = ℕ} 0 1 = cc in absurd (omega arith)
+
+    by-kind : (o : Option Kind) → kindNumbered v01 (d .kind) ≡ o → kindIn v01 o d t ≡ some b → ReadsBack d t b rest
+    by-kind none n e = let z : _≡_ {A = ℕ} 0 1 = cc in absurd (omega arith)
+    by-kind (some k) n e = given k (givableAll v01 (fieldsOf v01 k) d t) n refl e
