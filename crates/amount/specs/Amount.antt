@@ -126,6 +126,11 @@ abbrev pub amountParsed : Parsed → ReadAmount
 amountParsed (amount w f u) = counted (number (w ++ f) * sizeOf u) (10 ^ length f)
 amountParsed noAmount = Refused textRefusal
 
+-- "If an answer is an enum, a definition gives this paper's number": 0 where the text is read, or the refusal's.
+abbrev pub readNumber : ReadAmount → ℕ
+readNumber (Read cap) = 0
+readNumber (Refused n) = n
+
 -- The cap that a text names, or the refusal.
 unfoldable pub amountOf : List ℕ → ReadAmount
 amountOf t = cond (sameBytes t unlimitedText) (Read Unlimited) (amountParsed (parse t))

@@ -1,5 +1,5 @@
 -- The number that reading gives is right: what each answer means, for every text, with 10^f for f fraction digits and
--- the whole and the fraction digits as one number. The first four are of a text that the grammar takes; the last is of all texts.
+-- the whole and the fraction digits as one number. The first three are of a text that the grammar takes; the last two are of all texts.
 use mathlib.Core.Path.{_≡_, refl, ap, sym, _∙_}
 use mathlib.Core.Bool.{Bool, true, false, cond, false≢true}
 use mathlib.Core.List.{List, _++_}

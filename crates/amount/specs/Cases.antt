@@ -1,4 +1,4 @@
--- The cases of 01 that are marked to be proved from the definitions, in one table.
+-- The starred cases of 01 on typed amounts, in one table with one proof. The starred cases on other subjects stand with the rules.
 use mathlib.Core.List.{List, [], _∷_, map}
 use mathlib.Core.Path.{_≡_, refl}
 use Prim.Native.String.{String}

@@ -1,5 +1,5 @@
 -- Typed amounts. Amount and Writing are the definitions that the two contracts cite, over Digits.
--- What is proved of them: Cases, the paper's worked cases; Grammar, which texts are taken; AmountTheorems, that the
+-- What is proved of them: Cases, the paper's starred cases; Grammar, which texts are taken; AmountTheorems, that the
 -- number is right; RoundTrip, that reading undoes writing. The others are for the proofs of the code.
 pub mod Digits
 pub mod Amount

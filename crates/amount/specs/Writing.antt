@@ -49,7 +49,16 @@ writtenOf cap size =
     cond (aboveLimit cap) (Refused tooLarge)
     (cond (ltb size (length (textOf cap))) (Refused room) (Length (length (textOf cap))))
 
--- The buffer after an answer: the text at its start and "bytes after the text stay"; as it was where the answer is a refusal.
+-- "If an answer is an enum, a definition gives this paper's number and values": 0 and the length written, or the refusal's number and 0.
+abbrev pub writtenNumber : Written → ℕ
+writtenNumber (Length n) = 0
+writtenNumber (Refused r) = r
+
+abbrev pub writtenValue : Written → ℕ
+writtenValue (Length n) = n
+writtenValue (Refused r) = 0
+
+-- The buffer after an answer: the text at its start and "Bytes after the text stay"; as it was where the answer is a refusal.
 abbrev pub bufferAt : Written → List ℕ → List ℕ → List ℕ
 bufferAt (Length n) text buf = text ++ drop n buf
 bufferAt (Refused r) text buf = buf

@@ -15,10 +15,11 @@ use Rattle.journal.specs.Fields.{Decoded, nothing, found, text, decode}
 use Rattle.journal.specs.Records.{Version, v01, readRecord}
 use Rattle.journal.specs.Places.{RECORD, readAt}
 
--- 24: "A journal above 65,536 bytes"
+-- "A journal above 65,536 bytes"
 abbrev pub journalMost : ℕ
 journalMost = 65536
 
+-- 24 TOO LARGE: "A journal above 65,536 bytes gives "stop 0 24"."
 abbrev pub TOO-LARGE : ℕ
 TOO-LARGE = 24
 
@@ -107,6 +108,16 @@ onReading body (Refused n) = Stop n
 abbrev pub onBody : Version → Decoded (List ℕ) → Next
 onBody v nothing = Stop RECORD
 onBody v (found body rest) = onReading body (readAt v body)
+
+-- "If an answer is an enum, a definition gives this paper's number": 0, or that of the fault
+abbrev pub readingNumber : Reading → ℕ
+readingNumber (Fits r) = 0
+readingNumber (Refused n) = n
+
+abbrev pub nextNumber : Next → ℕ
+nextNumber End = 0
+nextNumber (Whole r n) = 0
+nextNumber (Stop n) = n
 
 -- what stands next in the records: nothing, a whole record, or a fault
 unfoldable pub nextIn : Version → List ℕ → Next

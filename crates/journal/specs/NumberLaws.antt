@@ -46,7 +46,7 @@ numberOf-lt (b ∷ l) h =
     let p : 256 ^ suc (length l) ≡ 256 * 256 ^ length l = pow-succ' 256 (length l) in
     rw p (digits-lt (ltb-true _ _ (and-left (ltb b 256) (areBytes l) h)) (numberOf-lt l (and-right (ltb b 256) (areBytes l) h)))
 
--- what is written reads back: "one pair .. with one round trip"
+-- what is written reads back, over the width
 pub number-bytes : (w n : ℕ) → n < 256 ^ w → numberOf (bytesOf w n) ≡ n
 unfolding bytesOf numberOf
 number-bytes zero n h = omega (arith, pow-zero 256)

@@ -268,6 +268,6 @@ recordBytes v k x = kindNumber k ∷ encodeAll (formsOf v (fieldsOf v k)) x
 unfoldable pub writeRecord : Version → Call → List ℕ
 writeRecord v c = recordBytes v (kindOf c) (valuesOf v c)
 
--- the call can be written: its texts are short enough, its numbers within their bytes
+-- the call can be written: its texts are short enough, its numbers within their bytes, its account and hash 32 bytes
 unfoldable pub writable : Version → Call → Bool
 writable v c = fitsAll (formsOf v (fieldsOf v (kindOf c))) (valuesOf v c)

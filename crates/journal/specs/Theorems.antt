@@ -33,7 +33,7 @@ pub read-writes-back : (v : Version) (l : List ℕ) (c : Call) → areBytes l �
 unfolding writeRecord readRecord
 read-writes-back v l c h e = parse-given v l (kindOf c) (valuesOf v c) h (call-parsed v (parse v l) c e) .same
 
--- a record has one reading
+-- decoding is a function, so a record has one reading
 pub one-reading : (v : Version) (l : List ℕ) (c d : Call) → readRecord v l ≡ some c → readRecord v l ≡ some d → c ≡ d
 one-reading v l c d p q = cc
 

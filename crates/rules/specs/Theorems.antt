@@ -16,7 +16,7 @@ use Rattle.rules.specs.Laws.Reached
 use Rattle.rules.specs.Laws.CoinLaws
 use Rattle.rules.specs.Laws.RefusalLaws
 
--- "A refusal gives its number, value 0, and the desk is as before, session included.": of every call on every desk
+-- "the desk is as before, session included": of every call that is refused, on every desk
 pub refused-unchanged : (c : Call) (d : Desk) → isAccepted (step c d .answer) ≡ false → step c d .desk ≡ d
 refused-unchanged = RefusalLaws.refused-kept
 
