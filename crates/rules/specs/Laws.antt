@@ -3,6 +3,7 @@ pub mod SoundParts
 pub mod Shape
 pub mod MappedLaws
 pub mod ClearedLaws
+pub mod DropLaws
 pub mod RowFacts
 pub mod RestParts
 pub mod LastingLaws
@@ -44,6 +45,8 @@ pub mod LiveLaws
 pub mod AdvanceCoins
 pub mod UnmovedCoins
 pub mod CoinLaws
+pub mod OnceRows
+pub mod OnceLaws
 pub mod Reached
 pub mod VolumesChange
 pub mod CreateSound
@@ -56,6 +59,7 @@ pub mod FoundLaws
 pub mod AgainLaws
 pub mod InOrder
 pub mod InOrderLaws
+pub mod GoneLaws
 pub mod SerialLaws
 pub mod SerialCase
 pub mod Demand3

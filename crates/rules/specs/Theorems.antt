@@ -1,23 +1,32 @@
--- What is proved of the rules, over every list of calls from a fresh desk, at every rate. Each statement can be read without its proof, which
--- stands in Laws. Assumes nothing.
+-- What is proved of the rules, over every list of calls: from a fresh desk at every rate, or from any desk where a statement says so. Each can
+-- be read without its proof, which stands in Laws. Assumes nothing.
 use mathlib.Core.Path.{_≡_}
 use mathlib.Core.Bool.{true, false}
 use mathlib.Core.List.{List}
-use Prim.Native.Nat.{ℕ, _+_}
+use Prim.Native.Nat.{ℕ, _+_, _≤_}
+use Rattle.lists.specs.Lists.{miss, hit}
+use Rattle.rules.specs.declared.VolumeNo.{VolumeNo}
+use Rattle.rules.specs.declared.TokenNo.{TokenNo}
+use Rattle.rules.specs.declared.RelayNo.{RelayNo}
+use Rattle.rules.specs.declared.Account.{Account}
+use Rattle.rules.specs.declared.Token.{Token}
 use Rattle.rules.specs.declared.Desk.{Desk}
 use Rattle.rules.specs.Fresh.{freshDesk}
-use Rattle.rules.specs.Outcome.{isAccepted}
+use Rattle.rules.specs.Tables.{volumeOf, tokenOf, relayOf}
+use Rattle.rules.specs.Outcome.{isAccepted, deskRefused}
 use Rattle.rules.specs.Sound.{sound}
-use Rattle.rules.specs.Calls.{Call, rule, step, run}
+use Rattle.rules.specs.Calls.{delete, Call, ask, rule, step, run}
 use Rattle.rules.specs.Serial.{Demand3}
 use Rattle.rules.specs.Coins.{liveBalances, coinsIn, coinsPaid, coinsBack, summed}
 use Rattle.rules.specs.Laws.Demand3
 use Rattle.rules.specs.Laws.Reached
 use Rattle.rules.specs.Laws.CoinLaws
 use Rattle.rules.specs.Laws.RefusalLaws
+use Rattle.rules.specs.Laws.DropLaws
+use Rattle.rules.specs.Laws.GoneLaws
 
--- "the desk is as before, session included": of every call that is refused, on every desk
-pub refused-unchanged : (c : Call) (d : Desk) → isAccepted (step c d .answer) ≡ false → step c d .desk ≡ d
+-- "A refusal gives its number, value 0, and the desk is as before, session included.": of every call that is refused, on every desk
+pub refused-unchanged : (c : Call) (d : Desk) → isAccepted (step c d .answer) ≡ false → step c d ≡ deskRefused d (step c d .answer .number)
 refused-unchanged = RefusalLaws.refused-kept
 
 -- "One after another." For every list of calls, the second list, made from the calls and their answers alone, gives every kept call the same
@@ -42,3 +51,24 @@ module _ (rate : ℕ) (cs : List Call) where
   -- the desk's own sum of deposits is theirs
   pub deposits-add-up : run cs (freshDesk rate) .tables .deposits ≡ summed coinsIn cs (freshDesk rate)
   deposits-add-up = CoinLaws.deposits-summed rate cs
+
+-- "Each kind counts from 1, is never given twice": a number that was given and is not in the table is not in it after any calls, of volumes,
+pub volume-gone : (cs : List Call) (d : Desk) (n : VolumeNo) → n .0 ≤ d .tables .«last_volume» → volumeOf n (d .tables) ≡ miss
+    → volumeOf n (run cs d .tables) ≡ miss
+volume-gone = GoneLaws.volume-gone
+
+-- of tokens,
+pub token-gone : (cs : List Call) (d : Desk) (n : TokenNo) → n .0 ≤ d .tables .«last_token» → tokenOf n (d .tables) ≡ miss
+    → tokenOf n (run cs d .tables) ≡ miss
+token-gone = GoneLaws.token-gone
+
+-- and of relays
+pub relay-gone : (cs : List Call) (d : Desk) (n : RelayNo) → n .0 ≤ d .tables .«last_relay» → relayOf n (d .tables) ≡ miss
+    → relayOf n (run cs d .tables) ≡ miss
+relay-gone = GoneLaws.relay-gone
+
+-- "Delete .. drops the volume's tokens for good": each token that is found after an accepted delete is of another volume; by `token-gone` none
+-- of those that went comes back
+pub delete-drops-tokens : (a : Account) (n : VolumeNo) (d : Desk) → isAccepted (step (ask (delete a n)) d .answer) ≡ true
+    → (m : TokenNo) (j : ℕ) (k : Token) → tokenOf m (step (ask (delete a n)) d .desk .tables) ≡ hit j k → k .volume ≡ n → ⊥
+delete-drops-tokens = DropLaws.deleted-drops

@@ -15,7 +15,7 @@ use Rattle.rules.specs.declared.Status.the-variants.{Active, Grace, Dele
 use Rattle.rules.specs.declared.Volume.{Volume}
 use Rattle.rules.specs.declared.Tables.{Tables}
 use Rattle.rules.specs.Fresh.{freshVolume}
-use Rattle.rules.specs.Tables.{given, usedVolume, withClock, cleared}
+use Rattle.rules.specs.Tables.{given, usedVolume, withClock}
 use Rattle.rules.specs.Rent.{rentNow, epochEnds}
 use Rattle.rules.specs.VolumeCalls.{dropEntries}
 use Rattle.rules.specs.Advance.{paidOf, afterRent, settled, settle, atEpoch, relaysLeave, isDue, collect, advanced}
@@ -90,16 +90,17 @@ due-live block vs =
     sum-keep balanceOf (λ v. cond (isDue block v) (liveIn v) 0) (isDue block) vs (λ v. sym (due-used block v))
     ∙ sym (sum-keep liveIn (λ v. cond (isDue block v) (liveIn v) 0) (isDue block) vs (λ v. refl))
 
+-- a collection takes the balances of the volumes that it collects, and leaves the others
+collected-live : (p : Volume → Bool) (t : Tables) → sumOf liveIn (t .volumes) ≡ sumOf liveIn (collect p t .volumes) + sumOf liveIn (keep p (t .volumes))
+unfolding collect dropEntries
+collected-live p t = sym (sum-cleared p freshVolume liveIn (t .volumes) refl)
+
 module _ (t : Tables) (block : ℕ) where
-  -- the volumes that an advance leaves: no relay and no clock is read where rents are paid
+  -- no relay and no clock is read where rents are paid
   same-rents : (end : Bool) → atEpoch end (relaysLeave (withClock t block)) .volumes ≡ atEpoch end t .volumes
   unfolding atEpoch settle settled rentNow relaysLeave
   same-rents true = refl
   same-rents false = refl
-
-  advanced-volumes : advanced t block .volumes ≡ cleared (isDue block) freshVolume (afterRents t block)
-  unfolding advanced collect dropEntries afterRents
-  advanced-volumes = ap (cleared (isDue block) freshVolume) (same-rents (leb 1 (epochEnds (t .clock) block)))
 
   collected-deposits : (end : Bool) → collect (isDue block) (atEpoch end (relaysLeave (withClock t block))) .deposits ≡ t .deposits
   unfolding atEpoch settle relaysLeave collect dropEntries
@@ -112,16 +113,17 @@ module _ (t : Tables) (block : ℕ) where
 
   -- an advance pays rents and sends back balances
   pub advanced-coins : liveBalances t ≡ liveBalances (advanced t block) + rentsPaid t block + sentBack t block
-  unfolding liveBalances rentsPaid sentBack afterRents
+  unfolding advanced liveBalances rentsPaid sentBack afterRents
   advanced-coins =
-      let vs = afterRents t block in
-      let left = cleared (isDue block) freshVolume vs in
-      let a : liveBalances (advanced t block) ≡ sumOf liveIn left =
-      ap (λ (l : List Volume). sumOf balanceOf (keep usedVolume l)) advanced-volumes ∙ live-sum left in
+      let end = leb 1 (epochEnds (t .clock) block) in
+      let paid = atEpoch end (relaysLeave (withClock t block)) in
       omega (
         arith,
         live-sum (t .volumes),
-        rents-live t (leb 1 (epochEnds (t .clock) block)),
-        sum-cleared (isDue block) freshVolume liveIn vs refl,
-        due-live block vs,
+        live-sum (collect (isDue block) paid .volumes),
+        rents-live t end,
+        collected-live (isDue block) paid,
+        ap (sumOf liveIn) (same-rents end),
+        ap (λ (l : List Volume). sumOf liveIn (keep (isDue block) l)) (same-rents end),
+        due-live block (atEpoch end t .volumes),
       )

@@ -2,12 +2,11 @@
 use mathlib.Core.Path.{_≡_, refl, sym, _∙_}
 use mathlib.Core.Bool.{Bool, true, false, cond, not, _&&_, false≢true}
 use mathlib.Core.List.{List}
-use mathlib.Core.Logic.{⊎-elim}
 use Prim.Native.Nat.{ℕ}
 use borrow.Author.Tests.{not-false, eqb-true}
 use lib.Dec.{eqb, leb}
 use Rattle.lists.specs.Lists.{Hit, miss, hit, find}
-use Rattle.lists.specs.BoolLaws.{not-both, pass-or-fail}
+use Rattle.lists.specs.BoolLaws.{not-both}
 use Rattle.text.specs.Text.{isPath, covers, textBytes}
 use Rattle.rules.specs.declared.TokenNo.{TokenNo}
 use Rattle.rules.specs.declared.Hash.{Hash}
@@ -174,21 +173,14 @@ stage-before path size x t s a t′ ready =
 pub open-before : (n : TokenNo) (t : Tables) (s : Session) → isAccepted (openRule n t s .answer) ≡ true → (t′ : Tables) → Ready t′ s
 open-before n t s a t′ b = absurd (not-both b (open-found n t s a .idle))
 
--- A commit is refused outside its token's window.
-commit-window : (t : Tables) (s : Session) (i : ℕ) (v : Volume) (j : ℕ) (k : Token) → isAccepted (commitToken t s i v (hit j k) .answer) ≡ true
-    → inWindow (t .clock) (k .scope) ≡ true
-unfolding commitToken
-commit-window t s i v j k a =
-    ⊎-elim (λ w. w) (λ w. absurd (false≢true (rw w at a))) (pass-or-fail (inWindow (t .clock) (k .scope)))
-
 -- An accepted commit found the tables ready.
 commit-token-ready : (t : Tables) (s : Session) (i : ℕ) (v : Volume) (h : Hit Token) → volumeOf (s .volume) t ≡ hit i v → tokenOf (s .token) t ≡ h
     → isAccepted (commitToken t s i v h .answer) ≡ true → ReadyFor t s
 unfolding commitToken
 commit-token-ready t s i v miss f g a = absurd (false≢true a)
 commit-token-ready t s i v (hit j k) f g a =
-    let w = commit-window t s i v j k a in
-    let q = passed t s _ _ _ refl (rw w at a) in
+    let p = passed t s _ _ _ refl a in
+    let q = passed t s _ _ _ refl (p .1) in
     let r = passed t s _ _ _ refl (q .1) in
     record {
       volumeRow = i;
@@ -199,7 +191,7 @@ commit-token-ready t s i v (hit j k) f g a =
       tokenRow = j;
       token = k;
       tokenFound = g;
-      window = w;
+      window = not-false _ (p .0);
     }
 
 commit-volume-ready : (t : Tables) (s : Session) (h : Hit Volume) → volumeOf (s .volume) t ≡ h → isAccepted (commitVolume t s h .answer) ≡ true → ReadyFor t s

@@ -1,30 +1,29 @@
--- A refusal leaves the desk as it was, of every call on every desk. Assumes nothing.
-use mathlib.Core.Path.{_≡_, refl, sym, _∙_, ap}
+-- A refusal is its number, value 0 and the desk as it was, of every call on every desk. Assumes nothing.
+use mathlib.Core.Path.{_≡_, refl, _∙_, ap}
 use mathlib.Core.Bool.{Bool, true, false, cond, true≢false}
 use mathlib.Core.List.{List}
 use Prim.Native.Nat.{ℕ}
 use lib.Dec.{leb}
-use lib.ListN.{getD, set}
+use lib.ListN.{getD}
 use lib.Seq.{set-getD}
-use Rattle.amount.specs.declared.Cap.{Cap}
-use Rattle.lists.specs.Lists.{Hit, miss, hit, find}
+use Rattle.lists.specs.Lists.{Hit, miss, hit}
 use Rattle.rules.specs.declared.VolumeNo.{VolumeNo}
 use Rattle.rules.specs.declared.TokenNo.{TokenNo}
-use Rattle.rules.specs.declared.RelayNo.{RelayNo}
 use Rattle.rules.specs.declared.Account.{Account}
 use Rattle.rules.specs.declared.Volume.{Volume}
 use Rattle.rules.specs.declared.Entry.{Entry}
 use Rattle.rules.specs.declared.Token.{Token}
 use Rattle.rules.specs.declared.Relay.{Relay}
 use Rattle.rules.specs.declared.Scope.{Scope}
-use Rattle.rules.specs.declared.Hash.{Hash}
+use Rattle.rules.specs.declared.Session.{Session}
 use Rattle.rules.specs.declared.Tables.{Tables}
 use Rattle.rules.specs.declared.Desk.{Desk}
 use Rattle.rules.specs.declared.TablesOutcome.{TablesOutcome}
+use Rattle.rules.specs.declared.SlotOutcome.{SlotOutcome}
 use Rattle.rules.specs.Limits.{slotRows}
 use Rattle.rules.specs.Fresh.{freshSession}
 use Rattle.rules.specs.Scope.{ScopeArg}
-use Rattle.rules.specs.Outcome.{isAccepted, refused, accepted, deskRefused}
+use Rattle.rules.specs.Outcome.{refusal, isAccepted, refused, accepted, deskRefused, onTables}
 use Rattle.rules.specs.Numbers.{BAD}
 use Rattle.rules.specs.Sound.{sound}
 use Rattle.rules.specs.VolumeCalls.{createIn, createRule, depositIn, depositRule, deleteIn, deleteRule, undeleteIn, undeleteRule, removeEntry, removeIn, removeRule}
@@ -36,7 +35,7 @@ use Rattle.rules.specs.Laws.SlotLaws.{work-does}
 
 -- a call on the tables that is refused leaves them as they were
 record Kept (t : Tables) (o : TablesOutcome) : Type 0 where
-  kept : isAccepted (o .answer) ≡ false → o .tables ≡ t
+  kept : isAccepted (o .answer) ≡ false → o ≡ refused t (o .answer .number)
 
 refusal-keeps : (t : Tables) (n : ℕ) → Kept t (refused t n)
 refusal-keeps t n = record { kept = λ e. refl }
@@ -113,7 +112,7 @@ revoke-in t a (hit i k) = search (kept-rules, revoke-owner)
 look-entry : (t : Tables) (h : Hit Entry) → Kept t (lookEntry t h)
 unfolding lookEntry
 look-entry t miss = search kept-rules
-look-entry t (hit i e) = record { kept = λ e. refl }
+look-entry t (hit i e) = record { kept = λ e. absurd (true≢false e) }
 
 look-in : (t : Tables) (path : List ℕ) (h : Hit Token) → Kept t (lookIn t path h)
 unfolding lookIn
@@ -146,26 +145,27 @@ ask-kept (register capacity) t = search (kept-rules, register-in)
 ask-kept (heartbeat r) t = search (kept-rules, heartbeat-in)
 
 -- past the test of the desk
-rule-kept : (c : Call) (d : Desk) → isAccepted (rule c d .answer) ≡ false → rule c d .desk ≡ d
+rule-kept : (c : Call) (d : Desk) → isAccepted (rule c d .answer) ≡ false → rule c d ≡ deskRefused d (rule c d .answer .number)
 unfolding rule
-rule-kept (ask a) d = λ e i. record { tables = ask-kept a (d .tables) .kept e i; sessions = d .sessions }
+rule-kept (ask a) d = λ e. ap (onTables d) (ask-kept a (d .tables) .kept e)
 rule-kept (onSlot slot w) d = go (leb slotRows slot)
   where
-    go : (b : Bool) → isAccepted (cond b (deskRefused d BAD) (withSlot d slot (workRule w (d .tables) (getD (d .sessions) slot freshSession))) .answer) ≡ false
-        → cond b (deskRefused d BAD) (withSlot d slot (workRule w (d .tables) (getD (d .sessions) slot freshSession))) .desk ≡ d
+    o : SlotOutcome
+    o = workRule w (d .tables) (getD (d .sessions) slot freshSession)
+
+    go : (b : Bool) → isAccepted (cond b (deskRefused d BAD) (withSlot d slot o) .answer) ≡ false
+        → cond b (deskRefused d BAD) (withSlot d slot o) ≡ deskRefused d (cond b (deskRefused d BAD) (withSlot d slot o) .answer .number)
     go true e = refl
     go false e =
-        let h = work-does w (d .tables) (getD (d .sessions) slot freshSession) .refused e in
-        λ i. record {
-          tables = h .0 i;
-          sessions = (ap (set (d .sessions) slot) (h .1) ∙ set-getD (d .sessions) slot freshSession) i;
-        }
+        ap (withSlot d slot) (work-does w (d .tables) (getD (d .sessions) slot freshSession) .refused e)
+        ∙ ap (λ (ss : List Session). record { answer = refusal (o .answer .number); desk = record { tables = d .tables; sessions = ss } })
+        (set-getD (d .sessions) slot freshSession)
 
-pub refused-kept : (c : Call) (d : Desk) → isAccepted (step c d .answer) ≡ false → step c d .desk ≡ d
+pub refused-kept : (c : Call) (d : Desk) → isAccepted (step c d .answer) ≡ false → step c d ≡ deskRefused d (step c d .answer .number)
 unfolding step
 refused-kept c d = go (sound d)
   where
     go : (b : Bool) → isAccepted (cond b (rule c d) (deskRefused d BAD) .answer) ≡ false
-        → cond b (rule c d) (deskRefused d BAD) .desk ≡ d
+        → cond b (rule c d) (deskRefused d BAD) ≡ deskRefused d (cond b (rule c d) (deskRefused d BAD) .answer .number)
     go true e = rule-kept c d e
     go false e = refl

@@ -1,5 +1,5 @@
 -- Demand 3 for our desk, from the law that every call keeps a sound desk sound, which is an argument. Assumes nothing else.
-use mathlib.Core.Path.{_≡_, refl, sym, _∙_, subst}
+use mathlib.Core.Path.{_≡_, refl, sym, _∙_, subst, ap}
 use mathlib.Core.Bool.{true, false}
 use Prim.Native.Nat.{ℕ}
 use native.Mathlib.Omega.{arith}
@@ -12,6 +12,7 @@ use Rattle.serial.specs.Replay.{serial}
 use Rattle.rules.specs.declared.Answer.{Answer}
 use Rattle.rules.specs.declared.Session.{Session}
 use Rattle.rules.specs.declared.Tables.{Tables}
+use Rattle.rules.specs.declared.SlotOutcome.{SlotOutcome}
 use Rattle.rules.specs.declared.Desk.{Desk}
 use Rattle.rules.specs.Limits.{slotRows}
 use Rattle.rules.specs.Numbers.{BAD}
@@ -86,7 +87,9 @@ slot-passed slot w t s a = passed t s (leb slotRows slot) BAD (workRule w t s) r
 refused : (k : Kind) (s : ℕ) (c : Call) (t : Tables) (x : Session) → role c ≡ on k s → isAccepted (workOf c t x .0) ≡ false
     → (workOf c t x .1 ≡ t) × (workOf c t x .2 ≡ x)
 refused k s (ask a) t x r f = absurd (plain≢on r)
-refused k s (onSlot slot w) t x r f = slot-does slot w t x .refused f
+refused k s (onSlot slot w) t x r f =
+    let e = slot-does slot w t x .refused f in
+    (ap (λ (o : SlotOutcome). o .tables) e, ap (λ (o : SlotOutcome). o .session) e)
 
 commit-later : (s : ℕ) (c : Call) (t : Tables) (x : Session) → Pass Kind.commits s c t x → Later t (workOf c t x .1)
 commit-later s (ask a) t x p = absurd (plain≢on (p .is))

@@ -37,7 +37,7 @@ use Rattle.rules.specs.Laws.LaterLaws.{same-token, kept-map, later-refl}
 
 -- What a call of the kind k does to the tables t and the slot s, whatever it answers.
 pub record Does (k : Kind) (t : Tables) (s : Session) (o : SlotOutcome) : Type 0 where
-  pub refused : isAccepted (o .answer) ≡ false → (o .tables ≡ t) × (o .session ≡ s)
+  pub refused : isAccepted (o .answer) ≡ false → o ≡ slotRefused t s (o .answer .number)
   pub later : Later t (o .tables)
   pub tidy : Tidy s → Tidy (o .session)
   pub silent : Silent k → o .tables ≡ t
@@ -47,7 +47,7 @@ pub record Does (k : Kind) (t : Tables) (s : Session) (o : SlotOutcome) : Type 0
 does-check : (k : Kind) (t : Tables) (s : Session) (b : Bool) (n : ℕ) (o : SlotOutcome) → eqb n 0 ≡ false
     → (b ≡ false → Does k t s o) → Does k t s (cond b (slotRefused t s n) o)
 does-check k t s true n o e f = record {
-  refused = λ r. (refl, refl);
+  refused = λ r. refl;
   later = later-refl t;
   tidy = λ y. y;
   silent = λ i. refl;

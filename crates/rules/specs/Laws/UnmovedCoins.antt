@@ -1,16 +1,14 @@
 -- The calls that move no coins: every call but advance and deposit leaves the live balances and the sum of deposits as they were. Assumes
 -- nothing.
 use mathlib.Core.Path.{_≡_, refl}
-use mathlib.Core.Bool.{Bool, true, false, _&&_, cond, not}
+use mathlib.Core.Bool.{Bool, true, false, cond, not}
 use mathlib.Core.List.{List}
 use Prim.Native.Nat.{ℕ, _+_}
 use native.Mathlib.Omega.{arith}
-use lib.Dec.{leb}
 use lib.ListN.{set}
 use Rattle.amount.specs.declared.Cap.{Cap}
-use Rattle.lists.specs.Lists.{Hit, miss, hit, find, anyOf}
+use Rattle.lists.specs.Lists.{Hit, miss, hit, find}
 use Rattle.lists.specs.SearchLaws.{row-passes}
-use Rattle.text.specs.Text.{isName}
 use Rattle.rules.specs.declared.VolumeNo.{VolumeNo}
 use Rattle.rules.specs.declared.Account.{Account}
 use Rattle.rules.specs.declared.TokenNo.{TokenNo}
@@ -28,13 +26,11 @@ use Rattle.rules.specs.declared.Tables.{Tables}
 use Rattle.rules.specs.declared.TablesOutcome.{TablesOutcome}
 use Rattle.rules.specs.declared.SlotOutcome.{SlotOutcome}
 use Rattle.rules.specs.Fresh.{freshToken}
-use Rattle.rules.specs.Tables.{busy, freeVolume, staged, isVolume, volumeOf, tokenOf, relayOf, withVolumes, withTokens, withRelays, withVersion, withStatus, withBeat, cleared}
-use Rattle.rules.specs.Limits.{lastNumber}
-use Rattle.rules.specs.Numbers.{BAD, SESSION, SPENT, NAME-TAKEN}
-use Rattle.rules.specs.Outcome.{refused, slotRefused}
-use Rattle.rules.specs.Sound.{shardsFit}
-use Rattle.rules.specs.Scope.{capFits, ScopeArg, descends}
-use Rattle.rules.specs.VolumeCalls.{hasName, newVolume, createIn, createRule, isTokenOf, deleteIn, deleteRule, undeleteIn, undeleteRule, dropEntries, removeRule}
+use Rattle.rules.specs.Tables.{busy, freeVolume, staged, isVolume, volumeOf, tokenOf, relayOf, withTokens, withRelays, withVersion, withStatus, withBeat, cleared}
+use Rattle.rules.specs.Numbers.{SESSION}
+use Rattle.rules.specs.Outcome.{slotRefused}
+use Rattle.rules.specs.Scope.{ScopeArg, descends}
+use Rattle.rules.specs.VolumeCalls.{createIn, createRule, deleteIn, deleteRule, undeleteIn, undeleteRule, dropEntries, removeRule}
 use Rattle.rules.specs.TokenCalls.{tokenIn, newToken, grantIn, grantRule, attenuateIn, attenuateRule, revokeOwner, revokeIn, revokeRule, lookEntry, lookIn, lookRule}
 use Rattle.rules.specs.SessionCalls.{openVolume, openToken, openRule, stagePut, stageToken, stageRule, abandonRule}
 use Rattle.rules.specs.Commit.{Placed, noPlace, placed, committed, commitPlaced, commitLimits, commitToken, commitVolume, commitRule}
@@ -55,10 +51,10 @@ same-volumes : (t u : Tables) → u .volumes ≡ t .volumes → u .deposits ≡ 
 unfolding liveBalances
 same-volumes t u e f = record { live = rw e; deposits = f }
 
-same-balance : (t u : Tables) (n : VolumeNo) (i : ℕ) (v w : Volume) → find (isVolume n) (t .volumes) ≡ hit i v → liveIn w ≡ liveIn v
-    → u .volumes ≡ set (t .volumes) i w → u .deposits ≡ t .deposits → Unmoved t u
+same-balance : (t : Tables) (n : VolumeNo) (i : ℕ) (v w : Volume) → find (isVolume n) (t .volumes) ≡ hit i v → liveIn w ≡ liveIn v
+    → (u : Tables) → u .volumes ≡ set (t .volumes) i w → u .deposits ≡ t .deposits → Unmoved t u
 unfolding liveBalances
-same-balance t u n i v w e q r f = record { live = rw r (omega (arith, live-set (isVolume n) (t .volumes) i v w e, q)); deposits = f }
+same-balance t n i v w e q u r f = record { live = rw r (omega (arith, live-set (isVolume n) (t .volumes) i v w e, q)); deposits = f }
 
 -- both sides of a check
 check : (t : Tables) (b : Bool) (x y : TablesOutcome) → Unmoved t (x .tables) → Unmoved t (y .tables) → Unmoved t (cond b x y .tables)
@@ -86,14 +82,7 @@ create-in t v (hit i old) e z = record {
 
 pub create-coins : (a : Account) (name : List ℕ) (k m : ℕ) (cap : Cap) (t : Tables) → Unmoved t (createRule a name k m cap t .tables)
 unfolding createRule
-create-coins a name k m cap t =
-    let made = createIn t (newVolume (t .«last_volume» + 1) a name k m cap) (find freeVolume (t .volumes)) in
-    let numbered = cond (leb lastNumber (t .«last_volume»)) (refused t SPENT) made in
-    let named = cond (anyOf (hasName a name) (t .volumes)) (refused t NAME-TAKEN) numbered in
-    check t (not (isName name && shardsFit k m && capFits cap)) (refused t BAD) named (unmoved-self t)
-    (check t (anyOf (hasName a name) (t .volumes)) (refused t NAME-TAKEN) numbered (unmoved-self t)
-    (check t (leb lastNumber (t .«last_volume»)) (refused t SPENT) made (unmoved-self t)
-    (create-in t (newVolume (t .«last_volume» + 1) a name k m cap) (find freeVolume (t .volumes)) refl refl)))
+create-coins a name k m cap t = search (check, unmoved-self, create-in)
 
 -- delete, undelete and remove: the volume keeps its balance
 delete-in : (t : Tables) (a : Account) (n : VolumeNo) (h : Hit Volume) → find (isVolume n) (t .volumes) ≡ h → Unmoved t (deleteIn t a h .tables)
@@ -101,8 +90,7 @@ unfolding deleteIn
 delete-in t a n miss e = unmoved-self t
 delete-in t a n (hit i v) e =
     let w = withStatus v Deleted (v .grace) (t .clock) in
-    let u = withTokens (withVolumes t (set (t .volumes) i w)) (cleared (isTokenOf (v .no)) freshToken (t .tokens)) in
-    search (check, unmoved-self, same-balance t u n i v w e refl refl refl)
+    search (check, unmoved-self, same-balance t n i v w e refl)
 
 pub delete-coins : (a : Account) (n : VolumeNo) (t : Tables) → Unmoved t (deleteRule a n t .tables)
 unfolding deleteRule volumeOf
@@ -113,7 +101,7 @@ unfolding undeleteIn
 undelete-in t a n miss e = unmoved-self t
 undelete-in t a n (hit i v) e =
     let w = withStatus v Active 0 0 in
-    search (check, unmoved-self, same-balance t (withVolumes t (set (t .volumes) i w)) n i v w e refl refl refl)
+    search (check, unmoved-self, same-balance t n i v w e refl)
 
 pub undelete-coins : (a : Account) (n : VolumeNo) (t : Tables) → Unmoved t (undeleteRule a n t .tables)
 unfolding undeleteRule volumeOf
@@ -123,7 +111,7 @@ pub remove-coins : (a : Account) (n : VolumeNo) (path : List ℕ) (t : Tables) �
 unfolding dropEntries
 remove-coins a n path t =
     remove-cases (Unmoved t) a n path t (unmoved-self t)
-    (λ i v e. same-balance t (removed t path i v) n i v (withVersion v (v .version + 1)) e refl refl refl)
+    (λ i v e. same-balance t n i v (withVersion v (v .version + 1)) e refl (removed t path i v) refl refl)
 
 -- tokens: no volume changes
 token-in : (t : Tables) (k : Token) (h : Hit Token) → Unmoved t (tokenIn t k h .tables)
@@ -240,7 +228,7 @@ module _ (t : Tables) (s : Session) (i : ℕ) (v : Volume) (e : find (isVolume (
   unfolding commitPlaced committed
   commit-placed k noPlace = unmoved-self t
   commit-placed k (placed places rs) =
-      same-balance t (committed t i v k (staged s) places rs) (s .volume) i v (withVersion v (v .version + 1)) e refl refl refl
+      same-balance t (s .volume) i v (withVersion v (v .version + 1)) e refl (committed t i v k (staged s) places rs) refl refl
 
   commit-limits : (k : Token) → Unmoved t (commitLimits t s i v k .tables)
   unfolding commitLimits

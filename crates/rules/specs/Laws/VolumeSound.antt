@@ -20,7 +20,7 @@ use Rattle.rules.specs.declared.TablesOutcome.{TablesOutcome}
 use Rattle.rules.specs.Limits.{balanceLimit, depositsLimit}
 use Rattle.rules.specs.Numbers.{NOT-OWNER, STATE, TOO-MUCH}
 use Rattle.rules.specs.Fresh.{freshVolume, freshToken}
-use Rattle.rules.specs.Tables.{numbered, isVolume, ownedBy, volumeOf, withVolumes, withTokens, withDeposits, withBalance, withStatus, cleared}
+use Rattle.rules.specs.Tables.{usedToken, numbered, isVolume, ownedBy, volumeOf, withVolumes, withTokens, withDeposits, withBalance, withStatus, cleared}
 use Rattle.rules.specs.Outcome.{refused}
 use Rattle.rules.specs.Sound.{soundStatus, soundVolume}
 use Rattle.rules.specs.VolumeCalls.{isOpen, isDeleted, tooMuch, depositIn, depositRule, isTokenOf, deleteIn, deleteRule, undeleteIn, undeleteRule}
@@ -107,9 +107,7 @@ module _ (t : Tables) (inv : Whole t) (n : VolumeNo) (i : ℕ) (v : Volume) (fou
       not-pass (isTokenOf (v .no) k)
       (λ h.
       let q : k .volume .0 ≡ row .volume .0 = kin j b w i k e in
-      let own : numbered (v .no .0) (k .volume .0) ≡ true = search and-right in
-      let m : numbered (v .no .0) (row .volume .0) ≡ true = rw q at own in
-      not-both (and-both w m) g)
+      not-both (and-both w (rw q at (and-right (usedToken k) _ h))) g)
 
   deleted : FamilyInOneVolume t → Keeps t
       (withTokens (withVolumes t (set (t .volumes) i (withStatus v Deleted (v .grace) (t .clock)))) (cleared (isTokenOf (v .no)) freshToken (t .tokens)))
