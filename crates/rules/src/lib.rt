@@ -3,19 +3,19 @@
 // The rules themselves are the definitions in specs/: what each call answers and what it leaves. The code that carries
 // the calls out stands in the crates above and is proved against them.
 pub mod numbers;
-mod rows;
+mod fresh_rows;
 
 use amount::Cap;
-pub use rows::fresh;
-pub use rows::fresh_entry;
-pub use rows::fresh_hash;
-pub use rows::fresh_placement;
-pub use rows::fresh_put;
-pub use rows::fresh_relay;
-pub use rows::fresh_session;
-pub use rows::fresh_tables;
-pub use rows::fresh_token;
-pub use rows::fresh_volume;
+pub use fresh_rows::fresh;
+pub use fresh_rows::fresh_entry;
+pub use fresh_rows::fresh_hash;
+pub use fresh_rows::fresh_placement;
+pub use fresh_rows::fresh_put;
+pub use fresh_rows::fresh_relay;
+pub use fresh_rows::fresh_session;
+pub use fresh_rows::fresh_tables;
+pub use fresh_rows::fresh_token;
+pub use fresh_rows::fresh_volume;
 use text::Text;
 
 // Volume, token and relay numbers are three types, so that one cannot be passed where another belongs. Each counts from 1;

@@ -1,6 +1,6 @@
 use borrow.Author.Needs.{needs}
-use Rattle.rules.proofs.rows.fresh_session.Statement.{statement}
-use Rattle.rules.proofs.rows.fresh_session.Tie as tie
+use Rattle.rules.proofs.fresh_rows.fresh_session.Statement.{statement}
+use Rattle.rules.proofs.fresh_rows.fresh_session.Tie as tie
 
 fresh-put-requires : tie.Need-fresh-put-requires
 fresh-put-requires c κs = search needs

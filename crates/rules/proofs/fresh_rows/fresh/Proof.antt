@@ -1,6 +1,6 @@
 use borrow.Author.Needs.{needs}
-use Rattle.rules.proofs.rows.fresh.Statement.{statement}
-use Rattle.rules.proofs.rows.fresh.Tie as tie
+use Rattle.rules.proofs.fresh_rows.fresh.Statement.{statement}
+use Rattle.rules.proofs.fresh_rows.fresh.Tie as tie
 
 fresh-tables-requires : tie.Need-fresh-tables-requires
 fresh-tables-requires c κs = search needs

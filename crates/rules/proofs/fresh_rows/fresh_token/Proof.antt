@@ -1,6 +1,6 @@
 use borrow.Author.Needs.{needs}
-use Rattle.rules.proofs.rows.fresh_token.Statement.{statement}
-use Rattle.rules.proofs.rows.fresh_token.Tie as tie
+use Rattle.rules.proofs.fresh_rows.fresh_token.Statement.{statement}
+use Rattle.rules.proofs.fresh_rows.fresh_token.Tie as tie
 
 empty-text-requires : tie.Need-empty-text-requires
 empty-text-requires c κs = search needs

@@ -1,6 +1,6 @@
 use borrow.Author.Needs.{needs}
-use Rattle.rules.proofs.rows.fresh_tables.Statement.{statement}
-use Rattle.rules.proofs.rows.fresh_tables.Tie as tie
+use Rattle.rules.proofs.fresh_rows.fresh_tables.Statement.{statement}
+use Rattle.rules.proofs.fresh_rows.fresh_tables.Tie as tie
 
 fresh-volume-requires : tie.Need-fresh-volume-requires
 fresh-volume-requires c κs = search needs
