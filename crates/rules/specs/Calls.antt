@@ -1,8 +1,8 @@
 -- Document 01, "The calls": the calls of kinds 01 to 10 with their fields, what each answers and leaves, and lists of them. Assumes nothing.
-use mathlib.Core.Bool.{Bool, true, false, _&&_, cond, not}
+use mathlib.Core.Bool.{cond}
 use mathlib.Core.List.{List, [], _∷_}
 use Prim.Native.Nat.{ℕ}
-use lib.Dec.{leb, ltb}
+use lib.Dec.{leb}
 use lib.ListN.{getD, set}
 use Rattle.amount.specs.declared.Cap.{Cap}
 use Rattle.rules.specs.declared.VolumeNo.{VolumeNo}

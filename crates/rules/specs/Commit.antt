@@ -1,5 +1,5 @@
 -- Document 01, "Stage and commit" and the row of commit: its checks in the order of the row, the placing of its puts, then its effect. Assumes nothing.
-use mathlib.Core.Bool.{Bool, true, false, _&&_, cond, not}
+use mathlib.Core.Bool.{Bool, _&&_, cond, not}
 use mathlib.Core.List.{List, [], _∷_, _++_, map}
 use Prim.Native.Nat.{ℕ, _+_}
 use lib.Dec.{eqb, leb, ltb}

@@ -3,6 +3,8 @@ pub mod SoundParts
 pub mod Shape
 pub mod MappedLaws
 pub mod ClearedLaws
+pub mod AskCases
+pub mod WorkCases
 pub mod DropLaws
 pub mod RowFacts
 pub mod RestParts

@@ -17,6 +17,7 @@ pub mod SessionCalls
 pub mod Commit
 pub mod Calls
 pub mod Coins
+pub mod Numbering
 pub mod Serial
 pub mod Laws
 pub mod Theorems

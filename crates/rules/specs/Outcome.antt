@@ -1,7 +1,6 @@
 -- Document 01, "Refusal numbers": "Answer 0 is success with its value. A refusal gives its number, value 0, and the desk is as before, session
 -- included." Assumes nothing.
 use mathlib.Core.Bool.{Bool}
-use mathlib.Core.List.{List}
 use Prim.Native.Nat.{ℕ}
 use lib.Dec.{eqb}
 use Rattle.rules.specs.declared.Hash.{Hash}

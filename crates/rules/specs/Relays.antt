@@ -1,11 +1,10 @@
 -- Document 01, "Relays": health, which relays may take a shard, which do, and room that is taken and given back. Assumes nothing.
-use mathlib.Core.Bool.{Bool, true, false, _&&_, _||_, cond}
+use mathlib.Core.Bool.{Bool, _&&_, _||_, cond}
 use mathlib.Core.List.{List, [], _∷_, _++_, map}
-use Prim.Native.Nat.{ℕ, zero, suc, _+_, _-_, _/_}
+use Prim.Native.Nat.{ℕ, _+_, _-_, _/_}
 use lib.Dec.{eqb, leb, ltb}
 use lib.ListN.{length, take, replicate}
-use Rattle.lists.specs.Lists.{bit, Hit, miss, hit, find, firstRow, anyOf, countIf, keep, sumOf, bitSet}
-use Rattle.rules.specs.declared.VolumeNo.{VolumeNo}
+use Rattle.lists.specs.Lists.{bit, Hit, miss, hit, find, anyOf, countIf, sumOf, bitSet}
 use Rattle.rules.specs.declared.RelayNo.{RelayNo}
 use Rattle.rules.specs.declared.Placement.{Placement}
 use Rattle.rules.specs.declared.Volume.{Volume}

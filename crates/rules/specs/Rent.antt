@@ -1,5 +1,5 @@
 -- Document 01, "Rent": effective size, rent and epochs. Assumes nothing.
-use mathlib.Core.List.{List, [], _∷_, map}
+use mathlib.Core.List.{List, [], map}
 use Prim.Native.Nat.{ℕ, _+_, _-_, _*_, _/_}
 use Rattle.lists.specs.Lists.{keep, total}
 use Rattle.rules.specs.declared.VolumeNo.{VolumeNo}

@@ -6,7 +6,7 @@ use lib.Dec.{eqb, leb, ltb}
 use lib.ListN.{length}
 use Rattle.amount.specs.declared.Cap.{Cap}
 use Rattle.amount.specs.declared.Cap.the-variants.{Unlimited, Bytes}
-use Rattle.lists.specs.Lists.{Hit, miss, hit, find, firstRow, anyOf}
+use Rattle.lists.specs.Lists.{Hit, miss, hit, find, anyOf}
 use Rattle.text.specs.Text.{isPrefix, covers, textBytes, toText}
 use Rattle.rules.specs.declared.TokenNo.{TokenNo}
 use Rattle.rules.specs.declared.Mode.{Mode}

@@ -1,9 +1,9 @@
 -- Document 01, "The calls" and "Stage and commit": open, stage and abandon, each on the tables and one slot: its checks in the order of its row,
 -- then its effect. Number 1 for the slot itself is tested in Calls.antt. Assumes nothing.
-use mathlib.Core.Bool.{Bool, true, false, _&&_, cond, not}
+use mathlib.Core.Bool.{_&&_, cond, not}
 use mathlib.Core.List.{List, [], _∷_}
 use Prim.Native.Nat.{ℕ, _+_}
-use lib.Dec.{eqb, leb, ltb}
+use lib.Dec.{leb}
 use lib.ListN.{set, replicate}
 use Rattle.lists.specs.Lists.{Hit, miss, hit, find}
 use Rattle.text.specs.Text.{isPath, covers, textBytes, toText}
@@ -54,12 +54,19 @@ withPuts s count puts = record { token = s .token; volume = s .volume; version =
 abbrev pub newPut : List ℕ → ℕ → Hash → Put
 newPut path size h = record { path = toText path; size = size; hash = h }
 
--- "Staging a staged path again replaces its size and hash in its old place"; else 12 "stage: 9th path", then the next place
+-- "Staging a staged path again replaces its size and hash in its old place"; a new one takes the next place
+abbrev pub restaged : Session → ℕ → Put → Session
+restaged s j p = withPuts s (s .count) (set (s .puts) j p)
+
+abbrev pub stagedNext : Session → Put → Session
+stagedNext s p = withPuts s (s .count + 1) (set (s .puts) (s .count) p)
+
+-- 12: "stage: 9th path"
 unfoldable pub stagePut : Tables → Session → Put → Hit Put → SlotOutcome
-stagePut t s p (hit j old) = slotAccepted 0 t (withPuts s (s .count) (set (s .puts) j p))
+stagePut t s p (hit j old) = slotAccepted 0 t (restaged s j p)
 stagePut t s p miss =
     cond (leb putRows (s .count)) (slotRefused t s ROOM)
-    (slotAccepted 0 t (withPuts s (s .count + 1) (set (s .puts) (s .count) p)))
+    (slotAccepted 0 t (stagedNext s p))
 
 -- 4, 7
 unfoldable pub stageToken : Tables → Session → List ℕ → ℕ → Hash → Hit Token → SlotOutcome

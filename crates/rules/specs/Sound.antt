@@ -1,10 +1,9 @@
 -- Document 01, "Answered 1 before all else": the test of the desk, as a computed test. Each part stands under the words that it renders.
 -- A free row is free whatever else it holds; bytes after a text's length and places after a placement's length are not read. Assumes nothing.
-use mathlib.Core.Bool.{Bool, true, false, _&&_, _||_, not}
-use mathlib.Core.List.{List, [], _∷_}
+use mathlib.Core.Bool.{Bool, false, _&&_, _||_, not}
+use mathlib.Core.List.{[]}
 use Prim.Native.Nat.{ℕ, _+_}
 use lib.Dec.{eqb, leb}
-use lib.ListN.{length}
 use Rattle.lists.specs.Lists.{Hit, miss, hit, find, allOf, anyOf, sumOf, noClash}
 use Rattle.lists.specs.Bytes.{sameBytes}
 use Rattle.text.specs.Text.{within, isName, isPath, isPrefix, holds, textBytes}
@@ -22,7 +21,7 @@ use Rattle.rules.specs.declared.Session.{Session}
 use Rattle.rules.specs.declared.Tables.{Tables}
 use Rattle.rules.specs.declared.Desk.{Desk}
 use Rattle.rules.specs.Limits.{putRows, leastK, mostK, leastM, mostM, sizeLimit, capacityLimit, usedLimit, clockLimit, balanceLimit, depositsLimit, lastNumber, deepest}
-use Rattle.rules.specs.Tables.{usedVolume, usedEntry, usedToken, usedRelay, busy, freeVolume, freeEntry, freeToken, freeRelay, isVolume, isToken, numbered, staged}
+use Rattle.rules.specs.Tables.{usedVolume, busy, freeVolume, freeEntry, freeToken, freeRelay, isVolume, isToken, numbered, staged}
 use Rattle.rules.specs.Scope.{capFits, depth}
 use Rattle.rules.specs.Relays.{placedOn, sameRelay, bytesOn, shardsOn}
 

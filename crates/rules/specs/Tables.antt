@@ -1,5 +1,5 @@
 -- Document 01, "What the desk holds": the rows of the tables, how a number finds its row, and tables with one part replaced. Assumes nothing.
-use mathlib.Core.Bool.{Bool, true, false, _&&_, cond}
+use mathlib.Core.Bool.{Bool, _&&_, cond}
 use mathlib.Core.List.{List, [], _∷_}
 use Prim.Native.Nat.{ℕ}
 use lib.Dec.{eqb, ltb}

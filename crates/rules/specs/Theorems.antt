@@ -3,7 +3,7 @@
 use mathlib.Core.Path.{_≡_}
 use mathlib.Core.Bool.{true, false}
 use mathlib.Core.List.{List}
-use Prim.Native.Nat.{ℕ, _+_, _≤_}
+use Prim.Native.Nat.{ℕ, _+_, _≤_, _<_}
 use Rattle.lists.specs.Lists.{miss, hit}
 use Rattle.rules.specs.declared.VolumeNo.{VolumeNo}
 use Rattle.rules.specs.declared.TokenNo.{TokenNo}
@@ -15,21 +15,21 @@ use Rattle.rules.specs.Fresh.{freshDesk}
 use Rattle.rules.specs.Tables.{volumeOf, tokenOf, relayOf}
 use Rattle.rules.specs.Outcome.{isAccepted, deskRefused}
 use Rattle.rules.specs.Sound.{sound}
-use Rattle.rules.specs.Calls.{delete, Call, ask, rule, step, run}
+use Rattle.rules.specs.Calls.{Ask, delete, Call, ask, rule, step, run}
 use Rattle.rules.specs.Serial.{Demand3}
+use Rattle.rules.specs.Numbering.{NumberKind, Gives, lastOf}
 use Rattle.rules.specs.Coins.{liveBalances, coinsIn, coinsPaid, coinsBack, summed}
 use Rattle.rules.specs.Laws.Demand3
 use Rattle.rules.specs.Laws.Reached
 use Rattle.rules.specs.Laws.CoinLaws
 use Rattle.rules.specs.Laws.RefusalLaws
-use Rattle.rules.specs.Laws.DropLaws
 use Rattle.rules.specs.Laws.GoneLaws
 
 -- "A refusal gives its number, value 0, and the desk is as before, session included.": of every call that is refused, on every desk
 pub refused-unchanged : (c : Call) (d : Desk) → isAccepted (step c d .answer) ≡ false → step c d ≡ deskRefused d (step c d .answer .number)
 refused-unchanged = RefusalLaws.refused-kept
 
--- "One after another." For every list of calls, the second list, made from the calls and their answers alone, gives every kept call the same
+-- Demand 3. For every list of calls, the second list, made from the calls and their answers alone, gives every kept call the same
 -- answer and ends with the same tables: the claim is `Demand3` in Serial.antt
 pub one-after-another : Demand3
 one-after-another = Demand3.demand3
@@ -52,23 +52,33 @@ module _ (rate : ℕ) (cs : List Call) where
   pub deposits-add-up : run cs (freshDesk rate) .tables .deposits ≡ summed coinsIn cs (freshDesk rate)
   deposits-add-up = CoinLaws.deposits-summed rate cs
 
--- "Each kind counts from 1, is never given twice": a number that was given and is not in the table is not in it after any calls, of volumes,
+-- "Each kind counts from 1, is never given twice": an accepted call that gives a number gives the one after the last, which is then the last,
+pub number-next : (k : NumberKind) (a : Ask) → Gives k a → (d : Desk) → isAccepted (step (ask a) d .answer) ≡ true
+    → (step (ask a) d .answer .value ≡ lastOf k (d .tables) + 1) × (lastOf k (step (ask a) d .desk .tables) ≡ step (ask a) d .answer .value)
+number-next = GoneLaws.number-next
+
+-- so of two calls that give a number of one kind the later one, whatever calls stand between them, gives the larger
+pub number-once : (k : NumberKind) (a b : Ask) → Gives k a → Gives k b → (d : Desk) (cs : List Call) → isAccepted (step (ask a) d .answer) ≡ true
+    → isAccepted (step (ask b) (run cs (step (ask a) d .desk)) .answer) ≡ true
+    → step (ask a) d .answer .value < step (ask b) (run cs (step (ask a) d .desk)) .answer .value
+number-once = GoneLaws.number-once
+
+-- and a number that was given and is not in its table is not in it after any calls
 pub volume-gone : (cs : List Call) (d : Desk) (n : VolumeNo) → n .0 ≤ d .tables .«last_volume» → volumeOf n (d .tables) ≡ miss
     → volumeOf n (run cs d .tables) ≡ miss
 volume-gone = GoneLaws.volume-gone
 
--- of tokens,
 pub token-gone : (cs : List Call) (d : Desk) (n : TokenNo) → n .0 ≤ d .tables .«last_token» → tokenOf n (d .tables) ≡ miss
     → tokenOf n (run cs d .tables) ≡ miss
 token-gone = GoneLaws.token-gone
 
--- and of relays
 pub relay-gone : (cs : List Call) (d : Desk) (n : RelayNo) → n .0 ≤ d .tables .«last_relay» → relayOf n (d .tables) ≡ miss
     → relayOf n (run cs d .tables) ≡ miss
 relay-gone = GoneLaws.relay-gone
 
--- "Delete .. drops the volume's tokens for good": each token that is found after an accepted delete is of another volume; by `token-gone` none
--- of those that went comes back
+-- "Delete .. drops the volume's tokens for good": a token of the volume before an accepted delete is not in the table after it, nor after any
+-- calls that follow
 pub delete-drops-tokens : (a : Account) (n : VolumeNo) (d : Desk) → isAccepted (step (ask (delete a n)) d .answer) ≡ true
-    → (m : TokenNo) (j : ℕ) (k : Token) → tokenOf m (step (ask (delete a n)) d .desk .tables) ≡ hit j k → k .volume ≡ n → ⊥
-delete-drops-tokens = DropLaws.deleted-drops
+    → (m : TokenNo) (j : ℕ) (k : Token) → tokenOf m (d .tables) ≡ hit j k → k .volume ≡ n
+    → (cs : List Call) → tokenOf m (run cs (step (ask (delete a n)) d .desk) .tables) ≡ miss
+delete-drops-tokens = GoneLaws.deleted-gone

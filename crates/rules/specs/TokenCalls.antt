@@ -1,8 +1,8 @@
 -- Document 01, "The calls": grant, attenuate, revoke and look. Each is its checks in the order of its row, then its effect. Assumes nothing.
-use mathlib.Core.Bool.{Bool, true, false, _&&_, cond, not}
-use mathlib.Core.List.{List, [], _∷_}
+use mathlib.Core.Bool.{cond, not}
+use mathlib.Core.List.{List, []}
 use Prim.Native.Nat.{ℕ, _+_}
-use lib.Dec.{eqb, leb, ltb}
+use lib.Dec.{leb}
 use lib.ListN.{set}
 use Rattle.lists.specs.Lists.{Hit, miss, hit, find}
 use Rattle.text.specs.Text.{isPath, covers, textBytes}
@@ -23,10 +23,14 @@ use Rattle.rules.specs.Scope.{ScopeArg, scopeFits, narrows, toScope, dep
 use Rattle.rules.specs.Outcome.{refused, accepted, successWith}
 use Rattle.rules.specs.VolumeCalls.{isOpen}
 
+-- the tables with a new token in its row
+abbrev pub granted : Tables → ℕ → Token → Tables
+granted t i k = withLastToken (withTokens t (set (t .tokens) i k)) (k .no .0)
+
 -- 12, then the token's row
 unfoldable pub tokenIn : Tables → Token → Hit Token → TablesOutcome
 tokenIn t k miss = refused t ROOM
-tokenIn t k (hit i old) = accepted (k .no .0) (withLastToken (withTokens t (set (t .tokens) i k)) (k .no .0))
+tokenIn t k (hit i old) = accepted (k .no .0) (granted t i k)
 
 -- a token of the next number, with nothing used
 abbrev pub nextToken : Tables → VolumeNo → TokenNo → Scope → Token
@@ -62,14 +66,18 @@ attenuateIn t s (hit i k) =
 unfoldable pub attenuateRule : TokenNo → ScopeArg → Tables → TablesOutcome
 attenuateRule n s t = cond (not (scopeFits s)) (refused t BAD) (attenuateIn t s (tokenOf n t))
 
+-- "Revoke drops the token and all descendants."
+abbrev pub revoked : Tables → Token → Tables
+revoked t k = withTokens t (cleared (descends (t .tokens) (k .no)) freshToken (t .tokens))
+
 -- 3: "account isn't the volume's owner"
 unfoldable pub revokeOwner : Tables → Account → Token → Hit Volume → TablesOutcome
 revokeOwner t a k miss = refused t NOT-OWNER
 revokeOwner t a k (hit i v) =
     cond (not (ownedBy a v)) (refused t NOT-OWNER)
-    (accepted 0 (withTokens t (cleared (descends (t .tokens) (k .no)) freshToken (t .tokens))))
+    (accepted 0 (revoked t k))
 
--- 4, then "Revoke drops the token and all descendants."
+-- 4
 unfoldable pub revokeIn : Tables → Account → Hit Token → TablesOutcome
 revokeIn t a miss = refused t NO-TOKEN
 revokeIn t a (hit i k) = revokeOwner t a k (volumeOf (k .volume) t)

@@ -1,7 +1,7 @@
 -- Document 01, "The calls": create, deposit, delete and undelete, and remove. Each is its checks in the order of its row, then its effect.
 -- Assumes nothing.
 use mathlib.Core.Bool.{Bool, true, false, _&&_, _||_, cond, not}
-use mathlib.Core.List.{List, [], _∷_, map}
+use mathlib.Core.List.{List, [], map}
 use Prim.Native.Nat.{ℕ, _+_}
 use lib.Dec.{eqb, leb, ltb}
 use lib.ListN.{set}
@@ -61,10 +61,18 @@ newVolume n a name k m cap = record {
   deleted = 0;
 }
 
+-- the volume of the next number
+abbrev pub nextVolume : Tables → Account → List ℕ → ℕ → ℕ → Cap → Volume
+nextVolume t a name k m cap = newVolume (t .«last_volume» + 1) a name k m cap
+
+-- the tables with a new volume in its row
+abbrev pub created : Tables → ℕ → Volume → Tables
+created t i v = withLastVolume (withVolumes t (set (t .volumes) i v)) (v .no .0)
+
 -- 12, then "New things take the lowest free row."
 unfoldable pub createIn : Tables → Volume → Hit Volume → TablesOutcome
 createIn t v miss = refused t ROOM
-createIn t v (hit i old) = accepted (v .no .0) (withLastVolume (withVolumes t (set (t .volumes) i v)) (v .no .0))
+createIn t v (hit i old) = accepted (v .no .0) (created t i v)
 
 -- "02 create | account, name, K, M, cap | 1 25 21 12 | number"
 unfoldable pub createRule : Account → List ℕ → ℕ → ℕ → Cap → Tables → TablesOutcome
@@ -72,18 +80,22 @@ createRule a name k m cap t =
     cond (not (isName name && shardsFit k m && capFits cap)) (refused t BAD)
     (cond (anyOf (hasName a name) (t .volumes)) (refused t NAME-TAKEN)
     (cond (leb lastNumber (t .«last_volume»)) (refused t SPENT)
-    (createIn t (newVolume (t .«last_volume» + 1) a name k m cap) (find freeVolume (t .volumes)))))
+    (createIn t (nextVolume t a name k m cap) (find freeVolume (t .volumes)))))
 
 -- 20: "balance above 10^15, or all deposits ever above 10^18"
 abbrev pub tooMuch : Tables → Volume → ℕ → Bool
 tooMuch t v coins = ltb balanceLimit (v .balance + coins) || ltb depositsLimit (t .deposits + coins)
+
+-- the coins are the volume's, and all deposits ever count them
+abbrev pub deposited : Tables → ℕ → ℕ → Volume → Tables
+deposited t coins i v = withDeposits (withVolumes t (set (t .volumes) i (withBalance v (v .balance + coins)))) (t .deposits + coins)
 
 unfoldable pub depositIn : Tables → ℕ → Hit Volume → TablesOutcome
 depositIn t coins miss = refused t NO-VOLUME
 depositIn t coins (hit i v) =
     cond (not (isOpen (v .status))) (refused t STATE)
     (cond (tooMuch t v coins) (refused t TOO-MUCH)
-    (accepted 0 (withDeposits (withVolumes t (set (t .volumes) i (withBalance v (v .balance + coins)))) (t .deposits + coins))))
+    (accepted 0 (deposited t coins i v)))
 
 -- "03 deposit | volume, coins | 2 8 20 | 0"
 unfoldable pub depositRule : VolumeNo → ℕ → Tables → TablesOutcome
@@ -94,25 +106,33 @@ abbrev pub isTokenOf : VolumeNo → Token → Bool
 isTokenOf n k = usedToken k && numbered (n .0) (k .volume .0)
 
 -- "Delete sets DELETED and drops the volume's tokens for good."
+abbrev pub deleted : Tables → ℕ → Volume → Tables
+deleted t i v =
+    withTokens (withVolumes t (set (t .volumes) i (withStatus v Deleted (v .grace) (t .clock)))) (cleared (isTokenOf (v .no)) freshToken (t .tokens))
+
+-- 2, 3, 8
 unfoldable pub deleteIn : Tables → Account → Hit Volume → TablesOutcome
 deleteIn t a miss = refused t NO-VOLUME
 deleteIn t a (hit i v) =
     cond (not (ownedBy a v)) (refused t NOT-OWNER)
     (cond (not (isOpen (v .status))) (refused t STATE)
-    (accepted 0
-    (withTokens (withVolumes t (set (t .volumes) i (withStatus v Deleted (v .grace) (t .clock)))) (cleared (isTokenOf (v .no)) freshToken (t .tokens)))))
+    (accepted 0 (deleted t i v)))
 
 -- "04 delete, 05 undelete | account, volume | 2 3 8 | 0"
 unfoldable pub deleteRule : Account → VolumeNo → Tables → TablesOutcome
 deleteRule a n t = deleteIn t a (volumeOf n t)
 
 -- "Undelete: DELETED, and gives ACTIVE with its grace count cleared."
+abbrev pub undeleted : Tables → ℕ → Volume → Tables
+undeleted t i v = withVolumes t (set (t .volumes) i (withStatus v Active 0 0))
+
+-- 2, 3, 8
 unfoldable pub undeleteIn : Tables → Account → Hit Volume → TablesOutcome
 undeleteIn t a miss = refused t NO-VOLUME
 undeleteIn t a (hit i v) =
     cond (not (ownedBy a v)) (refused t NOT-OWNER)
     (cond (not (isDeleted (v .status))) (refused t STATE)
-    (accepted 0 (withVolumes t (set (t .volumes) i (withStatus v Active 0 0)))))
+    (accepted 0 (undeleted t i v)))
 
 -- "04 delete, 05 undelete | account, volume | 2 3 8 | 0"
 unfoldable pub undeleteRule : Account → VolumeNo → Tables → TablesOutcome
@@ -123,13 +143,16 @@ unfoldable pub dropEntries : (Entry → Bool) → Tables → Tables
 dropEntries p t =
     withRelays (withEntries t (cleared p freshEntry (t .entries))) (map (lightened (t .volumes) (keep p (t .entries))) (t .relays))
 
--- 15, 21, then the entry goes, "removed and collected ones at once", and "an accepted commit or remove adds 1"
+-- the entry goes, "removed and collected ones at once", and "an accepted commit or remove adds 1"
+abbrev pub removed : Tables → List ℕ → ℕ → Volume → Tables
+removed t path i v = withVolumes (dropEntries (isEntry (v .no) path) t) (set (t .volumes) i (withVersion v (v .version + 1)))
+
+-- 15, 21
 unfoldable pub removeEntry : Tables → List ℕ → ℕ → Volume → Hit Entry → TablesOutcome
 removeEntry t path i v miss = refused t NO-ENTRY
 removeEntry t path i v (hit j e) =
     cond (leb lastVersion (v .version)) (refused t SPENT)
-    (accepted (v .version + 1)
-    (withVolumes (dropEntries (isEntry (v .no) path) t) (set (t .volumes) i (withVersion v (v .version + 1)))))
+    (accepted (v .version + 1) (removed t path i v))
 
 -- 2, 3, 8: "Only owners remove (001)."
 unfoldable pub removeIn : Tables → Account → List ℕ → Hit Volume → TablesOutcome

@@ -2,8 +2,8 @@
 //
 // The rules themselves are the definitions in specs/: what each call answers and what it leaves. The code that carries
 // the calls out stands in the crates above and is proved against them.
-pub mod numbers;
 mod fresh_rows;
+pub mod numbers;
 
 use amount::Cap;
 pub use fresh_rows::fresh;

@@ -11,22 +11,19 @@ use Rattle.lists.specs.BoolLaws.{or-left, or-right}
 use Rattle.lists.specs.TestLaws.{all-at, all-weaker}
 use Rattle.rules.specs.declared.Tables.{Tables}
 use Rattle.rules.specs.Limits.{clockLimit}
-use Rattle.rules.specs.Numbers.{CLOCK}
 use Rattle.rules.specs.Fresh.{freshVolume, freshRelay}
 use Rattle.rules.specs.Tables.{withClock}
 use Rattle.rules.specs.Relays.{isDead}
 use Rattle.rules.specs.Rent.{epochEnds}
-use Rattle.rules.specs.Outcome.{refused, accepted}
 use Rattle.rules.specs.VolumeCalls.{dropEntries}
-use Rattle.rules.specs.Advance.{relaysLeave, settle, isDue, collect, atEpoch, advanced, badBlock, advanceRule}
+use Rattle.rules.specs.Advance.{relaysLeave, settle, isDue, collect, atEpoch, advanced, badBlock}
 use Rattle.rules.specs.Sound.{soundVolume, soundEntry, soundToken, soundRelay, volumeThere, parentThere, sameRelayRow}
 use Rattle.rules.specs.Laws.SoundParts.{Parts}
 use Rattle.rules.specs.Laws.Shape.{Shape}
 use Rattle.rules.specs.Laws.Family.{FamilyInOneVolume}
-use Rattle.rules.specs.Laws.BranchLaws.{cond-case}
 use Rattle.rules.specs.Laws.RowFacts.{free-relay, count-facts, facts-counts}
 use Rattle.rules.specs.Laws.RowsKept.{Grown, volume-grown, entry-grown, relay-grown, token-stays}
-use Rattle.rules.specs.Laws.Invariant.{Invariant, Follows, follows-self}
+use Rattle.rules.specs.Laws.Invariant.{Invariant, Follows}
 use Rattle.rules.specs.Laws.RestParts.{Rest, rest-of}
 use Rattle.rules.specs.Laws.ClearedLaws.{length-cleared, all-cleared, clash-cleared}
 use Rattle.rules.specs.Laws.LastingLaws.{entry-same}
@@ -137,11 +134,8 @@ module _ (block : ℕ) (t : Tables) (s : Invariant t) where
       (record { clock = g .clock; volumes = g .volumes; tokens = g .tokens; relays = g .relays })
       (leb 1 (epochEnds (t .clock) block))
 
-  pub advance-follows : Follows t (advanceRule block t .tables)
-  unfolding advanceRule
-  advance-follows =
-      cond-case (λ o. Follows t (o .tables)) (badBlock (t .clock) block) (refused t CLOCK) (accepted block (advanced t block)) (λ b. follows-self s)
-      (λ b.
+  pub advance-follows : badBlock (t .clock) block ≡ false → Follows t (advanced t block)
+  advance-follows b =
       let n = or-left (ltb block (t .clock) || ltb clockLimit block) (leb 2 (epochEnds (t .clock) block)) b in
       advanced-follows (ltb-false block (t .clock) (or-left (ltb block (t .clock)) (ltb clockLimit block) n))
-      (ltb-false clockLimit block (or-right (ltb block (t .clock)) (ltb clockLimit block) n)))
+      (ltb-false clockLimit block (or-right (ltb block (t .clock)) (ltb clockLimit block) n))

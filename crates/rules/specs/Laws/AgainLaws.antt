@@ -58,8 +58,13 @@ row-once t i j p u e = go (ℕ-discrete j i) (decLt i j)
     go (no n) (yes h) = absurd (row-order t i j p h u e)
     go (no n) (no h) = absurd (row-order t j i p (omega arith) (rw e u) (sym e))
 
+pub token-given : (n : TokenNo) (t : Tables) (i : ℕ) (k : Token) → Parts t → tokenOf n t ≡ hit i k → n .0 ≤ t .«last_token»
+token-given n t i k p f =
+    let here = token-at n t i k f in
+    rw (here, token-number n t i k f) at (row-given t i p (rw here (token-used n t i k f)))
+
 -- so the token that a search finds later is the one that it found before
-token-same : (n : TokenNo) (t t′ : Tables) (i i′ : ℕ) (k k′ : Token) → Parts t → Later t t′ → tokenOf n t ≡ hit i k → tokenOf n t′ ≡ hit i′ k′
+pub token-same : (n : TokenNo) (t t′ : Tables) (i i′ : ℕ) (k k′ : Token) → Parts t → Later t t′ → tokenOf n t ≡ hit i k → tokenOf n t′ ≡ hit i′ k′
     → SameToken k k′
 token-same n t t′ i i′ k k′ p l f f′ =
     let here = token-at n t i k f in

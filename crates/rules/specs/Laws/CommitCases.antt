@@ -48,41 +48,41 @@ pub record Accepted (t : Tables) (s : Session) : Type 0 where
 abbrev pub tablesOf : (t : Tables) (s : Session) → Accepted t s → Tables
 tablesOf t s a = committed t (a .volume-row) (a .volume) (a .token) (staged s) (a .places) (a .relays)
 
-module _ (P : SlotOutcome → Type 0) (t : Tables) (s : Session) (refusal : (n : ℕ) → P (slotRefused t s n))
+module _ (P : SlotOutcome → Type 0) (t : Tables) (s : Session) (refusal : (n : ℕ) → eqb n 0 ≡ false → P (slotRefused t s n))
     (done : (a : Accepted t s) → P (slotAccepted (a .volume .version + 1) (tablesOf t s a) freshSession)) where
-  checked : (b : Bool) (n : ℕ) (o : SlotOutcome) → (b ≡ false → P o) → P (cond b (slotRefused t s n) o)
-  checked b n o f = cond-case P b (slotRefused t s n) o (λ e. refusal n) f
+  checked : (b : Bool) (n : ℕ) (o : SlotOutcome) → eqb n 0 ≡ false → (b ≡ false → P o) → P (cond b (slotRefused t s n) o)
+  checked b n o z f = cond-case P b (slotRefused t s n) o (λ e. refusal n z) f
 
   pub commit-case : P (commitRule t s)
   unfolding commitRule commitVolume commitToken commitLimits commitPlaced
-  commit-case = checked (not (busy s)) SESSION _ (λ b. on-volume (not-false (busy s) b) (volumeOf (s .volume) t) refl)
+  commit-case = checked (not (busy s)) SESSION _ refl (λ b. on-volume (not-false (busy s) b) (volumeOf (s .volume) t) refl)
     where
       on-token : busy s ≡ true → (i : ℕ) (v : Volume) → volumeOf (s .volume) t ≡ hit i v → (h : Hit Token) → tokenOf (s .token) t ≡ h
           → P (commitToken t s i v h)
-      on-token u i v e miss f = refusal NO-TOKEN
+      on-token u i v e miss f = refusal NO-TOKEN refl
       on-token u i v e (hit j k) f =
-          checked (not (inWindow (t .clock) (k .scope))) WINDOW _
+          checked (not (inWindow (t .clock) (k .scope))) WINDOW _ refl
           (λ a.
-          checked (not (isActive (v .status))) STATE _
+          checked (not (isActive (v .status))) STATE _ refl
           (λ b.
-          checked (not (eqb (v .version) (s .version))) CONFLICT _
+          checked (not (eqb (v .version) (s .version))) CONFLICT _ refl
           (λ c.
-          checked (leb lastVersion (v .version)) SPENT _
+          checked (leb lastVersion (v .version)) SPENT _ refl
           (λ d.
-          checked (passesQuotas t k (staged s)) QUOTA _
+          checked (passesQuotas t k (staged s)) QUOTA _ refl
           (λ q.
-          checked (passesSize t v (staged s)) SIZE _
+          checked (passesSize t v (staged s)) SIZE _ refl
           (λ z.
-          checked (passesRoom t v (staged s)) ROOM _
+          checked (passesRoom t v (staged s)) ROOM _ refl
           (λ r.
-          checked (belowRent t v (staged s)) RENT _
+          checked (belowRent t v (staged s)) RENT _ refl
           (λ x. on-placed a b c d q z r x (placeAll (t .clock) (v .k) (v .m) (staged s) (t .relays)) refl))))))))
         where
           on-placed : not (inWindow (t .clock) (k .scope)) ≡ false → not (isActive (v .status)) ≡ false
               → not (eqb (v .version) (s .version)) ≡ false → leb lastVersion (v .version) ≡ false → passesQuotas t k (staged s) ≡ false
               → passesSize t v (staged s) ≡ false → passesRoom t v (staged s) ≡ false → belowRent t v (staged s) ≡ false → (p : Placed)
               → placeAll (t .clock) (v .k) (v .m) (staged s) (t .relays) ≡ p → P (commitPlaced t s i v k p)
-          on-placed a b c d q z r x noPlace w = refusal NO-PLACE
+          on-placed a b c d q z r x noPlace w = refusal NO-PLACE refl
           on-placed a b c d q z r x (placed places rs) w =
               done
               (record {
@@ -107,5 +107,5 @@ module _ (P : SlotOutcome → Type 0) (t : Tables) (s : Session) (refusal : (n :
               })
 
       on-volume : busy s ≡ true → (h : Hit Volume) → volumeOf (s .volume) t ≡ h → P (commitVolume t s h)
-      on-volume u miss e = refusal NO-VOLUME
+      on-volume u miss e = refusal NO-VOLUME refl
       on-volume u (hit i v) e = on-token u i v e (tokenOf (s .token) t) refl

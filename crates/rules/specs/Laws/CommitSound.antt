@@ -24,7 +24,7 @@ use Rattle.rules.specs.Fresh.{freshPut, freshPlacement}
 use Rattle.rules.specs.Tables.{given, numbered, usedEntry, isVolume, staged, volumeOf, tokenOf, withVolumes, withEntries, withTokens, withRelays, withVersion}
 use Rattle.rules.specs.Scope.{family}
 use Rattle.rules.specs.Relays.{lightened}
-use Rattle.rules.specs.Commit.{storeAll, isReplaced, isNewPath, passesQuotas, passesRoom, stagedBytes, charged, committed, commitRule}
+use Rattle.rules.specs.Commit.{storeAll, isReplaced, isNewPath, passesQuotas, passesRoom, stagedBytes, charged, committed}
 use Rattle.rules.specs.Sound.{soundVolume, soundPlacement, soundEntry, soundRelay, soundPut, soundSession, samePath}
 use Rattle.rules.specs.Laws.RowFacts.{session-facts}
 use Rattle.rules.specs.Laws.RestParts.{Rest, rest-of, with-volumes}
@@ -38,13 +38,13 @@ use Rattle.rules.specs.Laws.LoadLaws.{Staged, putIn, placeIn, entryIn, w
 use Rattle.rules.specs.Laws.StoreLaws.{stored, replacedBy, Ready, length-stored}
 use Rattle.rules.specs.Laws.PutLaws.{store-all, replaced-same, puts-ready}
 use Rattle.rules.specs.Laws.Shape.{Shape}
-use Rattle.rules.specs.Laws.Invariant.{Invariant, follows-self, SlotSound, SlotFollows, fresh-slot}
+use Rattle.rules.specs.Laws.Invariant.{Invariant, Follows}
 use Rattle.rules.specs.Laws.ChargeLaws.{charge-rest, charge-family}
 use Rattle.rules.specs.Laws.SoundParts.{Parts}
 use Rattle.rules.specs.Laws.Family.{FamilyInOneVolume}
 use Rattle.rules.specs.Laws.RowsKept.{Grown}
 use Rattle.rules.specs.Laws.StoredSound.{goneFrom, relayAfter, storedIn, relay-fits, new-entry, stored-rest}
-use Rattle.rules.specs.Laws.CommitCases.{Accepted, tablesOf, commit-case}
+use Rattle.rules.specs.Laws.CommitCases.{Accepted, tablesOf}
 
 -- the entries of puts that were placed
 abbrev entriesOf : Volume → List Staged → List Entry
@@ -188,23 +188,13 @@ committed-grown : (t : Tables) (s : Session) (a : Accepted t s) → Grown t (tab
 unfolding committed
 committed-grown t s a = omega arith
 
--- "0B commit": whatever it answers, it leaves sound tables sound
-pub commit-sound : (t : Tables) (s : Session) → Parts t → Shape t → soundSession t s ≡ true → Parts (commitRule t s .tables)
-commit-sound t s p shape sound = commit-case (λ o. Parts (o .tables)) t s (λ n. p) (committed-sound t p shape s sound)
-
--- and all that every call on a slot keeps
-pub commit-follows : (t : Tables) → Invariant t → (s : Session) → SlotSound t s → SlotFollows t (commitRule t s)
-commit-follows t inv s h =
-    commit-case (SlotFollows t) t s (λ n. record { tables = follows-self inv; slot = h })
-    (λ a.
-    record {
-      tables = record {
-        invariant = record {
-          parts = committed-sound t (inv .parts) (inv .shape) s (h .session) a;
-          shape = committed-shape t (inv .parts) (inv .shape) s (h .session) a;
-          family = committed-family t s a (inv .family);
-        };
-        grown = committed-grown t s a;
-      };
-      slot = fresh-slot (tablesOf t s a);
-    })
+-- an accepted commit leaves tables that may follow
+pub commit-follows : (t : Tables) → Invariant t → (s : Session) → soundSession t s ≡ true → (a : Accepted t s) → Follows t (tablesOf t s a)
+commit-follows t inv s h a = record {
+  invariant = record {
+    parts = committed-sound t (inv .parts) (inv .shape) s h a;
+    shape = committed-shape t (inv .parts) (inv .shape) s h a;
+    family = committed-family t s a (inv .family);
+  };
+  grown = committed-grown t s a;
+}

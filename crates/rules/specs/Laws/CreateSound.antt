@@ -1,12 +1,11 @@
 -- Create leaves sound tables sound: a new volume, in the lowest free row and with the next number. Assumes nothing.
 use mathlib.Core.Path.{_≡_, refl, ap, sym, _∙_}
-use mathlib.Core.Bool.{true, false, _&&_, not, false≢true}
+use mathlib.Core.Bool.{true, false, _&&_, false≢true}
 use mathlib.Core.Logic.{⊎-elim}
 use mathlib.Core.List.{List}
 use Prim.Native.Nat.{ℕ, _+_, _≤_, _<_}
 use native.Mathlib.Omega.{arith}
-use borrow.Author.Tests.{leb-false, le-leb, ltb-false, eqb-true, not-false}
-use lib.Dec.{leb}
+use borrow.Author.Tests.{le-leb, ltb-false, eqb-true}
 use lib.ListN.{getD, set, length-set}
 use Rattle.amount.specs.declared.Cap.{Cap}
 use Rattle.lists.specs.Lists.{Hit, miss, hit, find, anyOf}
@@ -23,25 +22,21 @@ use Rattle.rules.specs.declared.Volume.{Volume}
 use Rattle.rules.specs.declared.Entry.{Entry}
 use Rattle.rules.specs.declared.Token.{Token}
 use Rattle.rules.specs.declared.Tables.{Tables}
-use Rattle.rules.specs.declared.TablesOutcome.{TablesOutcome}
 use Rattle.rules.specs.Limits.{lastNumber}
-use Rattle.rules.specs.Numbers.{BAD, SPENT, NAME-TAKEN}
 use Rattle.rules.specs.Fresh.{freshVolume, freshEntry, freshToken}
-use Rattle.rules.specs.Tables.{numbered, usedVolume, usedEntry, usedToken, freeVolume, isVolume, ownedBy, withVolumes, withLastVolume}
+use Rattle.rules.specs.Tables.{numbered, usedVolume, usedEntry, usedToken, freeVolume, isVolume, ownedBy, withLastVolume}
 use Rattle.rules.specs.Scope.{capFits}
-use Rattle.rules.specs.Outcome.{refused}
 use Rattle.rules.specs.Sound.{shardsFit, soundVolume, soundEntry, soundToken, soundIn, volumeThere, sameName}
-use Rattle.rules.specs.VolumeCalls.{hasName, newVolume, createIn, createRule}
+use Rattle.rules.specs.VolumeCalls.{hasName, newVolume, created}
 use Rattle.rules.specs.Laws.RestParts.{rest-of}
 use Rattle.rules.specs.Laws.MappedLaws.{mapHit}
 use Rattle.rules.specs.Laws.LastingLaws.{lasting, lastingOf, ReadSame, volumes-change}
 use Rattle.rules.specs.Laws.RoomLaws.{no-zero}
 use Rattle.rules.specs.Laws.SetLaws.{all-set, clash-set, find-set}
-use Rattle.rules.specs.Laws.BranchLaws.{cond-case}
 use Rattle.rules.specs.Laws.NumberLaws.{numbered-eq, numbered-other, found-some, new-number}
 use Rattle.rules.specs.Laws.RowFacts.{facts-volume, entry-facts, token-facts, count-facts, facts-counts}
 use Rattle.rules.specs.Laws.RowsKept.{le-given}
-use Rattle.rules.specs.Laws.Invariant.{Whole, Keeps, keeps-self, keeps-on, counts-grow}
+use Rattle.rules.specs.Laws.Invariant.{Whole, Keeps, keeps-on, counts-grow}
 use Rattle.rules.specs.Laws.VolumesChange.{volumes-keep, volume-le}
 use Rattle.rules.specs.Laws.HeldText.{name-held}
 use Rattle.text.specs.TextLaws.{text-bytes}
@@ -153,25 +148,9 @@ module _ (t : Tables) (inv : Whole t) where
       tokens = λ j h w. found-same (getD (t .tokens) j freshToken .volume) (token-le (getD (t .tokens) j freshToken) w (all-at (soundToken t) (t .tokens) (inv .parts .tokens) j h freshToken));
     }
 
-    created : Keeps t (withVolumes u ws)
-    created =
+    pub create-keeps : Keeps t (created t i v)
+    create-keeps =
         keeps-on given-first
         (volumes-keep u ws (given-first .whole) (length-set (t .volumes) i v)
         (all-set (soundVolume u) (t .volumes) i v (given-first .whole .parts .volumes) new-sound)
         (volumes-change u ws others-read (rest-of (given-first .whole .parts))))
-
-pub create-keeps : (a : Account) (name : List ℕ) (k m : ℕ) (cap : Cap) (t : Tables) → Whole t → Keeps t (createRule a name k m cap t .tables)
-unfolding createRule createIn
-create-keeps a name k m cap t inv =
-    cond-case P (not (isName name && shardsFit k m && capFits cap)) (refused t BAD) _ (λ b. keeps-self inv)
-    (λ b. cond-case P (anyOf (hasName a name) (t .volumes)) (refused t NAME-TAKEN) _ (λ c. keeps-self inv)
-    (λ c. cond-case P (leb lastNumber (t .«last_volume»)) (refused t SPENT) _ (λ d. keeps-self inv)
-    (λ d. go (not-false (isName name && shardsFit k m && capFits cap) b) c (leb-false lastNumber (t .«last_volume») d) (find freeVolume (t .volumes)) refl)))
-  where
-    P : TablesOutcome → Type 0
-    P o = Keeps t (o .tables)
-
-    go : (isName name && shardsFit k m && capFits cap) ≡ true → anyOf (hasName a name) (t .volumes) ≡ false → t .«last_volume» < lastNumber
-        → (h : Hit Volume) → find freeVolume (t .volumes) ≡ h → P (createIn t (newVolume (t .«last_volume» + 1) a name k m cap) h)
-    go b c d miss e = keeps-self inv
-    go b c d (hit i old) e = created t inv a name k m cap b c d i old e

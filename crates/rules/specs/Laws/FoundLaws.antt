@@ -1,6 +1,6 @@
 -- Laws of open, stage and commit: what an accepted one found in the tables, and that this decides what it does. Assumes nothing.
 use mathlib.Core.Path.{_≡_, refl, sym, _∙_}
-use mathlib.Core.Bool.{Bool, true, false, cond, not, _&&_, false≢true}
+use mathlib.Core.Bool.{Bool, true, false, cond, _&&_, false≢true}
 use mathlib.Core.List.{List}
 use Prim.Native.Nat.{ℕ}
 use borrow.Author.Tests.{not-false, eqb-true}
@@ -14,6 +14,7 @@ use Rattle.rules.specs.declared.Volume.{Volume}
 use Rattle.rules.specs.declared.Token.{Token}
 use Rattle.rules.specs.declared.Put.{Put}
 use Rattle.rules.specs.declared.Session.{Session}
+use Rattle.rules.specs.declared.Answer.{Answer}
 use Rattle.rules.specs.declared.Tables.{Tables}
 use Rattle.rules.specs.declared.SlotOutcome.{SlotOutcome}
 use Rattle.rules.specs.Limits.{putRows, sizeLimit}
@@ -22,7 +23,9 @@ use Rattle.rules.specs.Scope.{inWindow, canWrite}
 use Rattle.rules.specs.Outcome.{isAccepted, slotRefused, slotAccepted}
 use Rattle.rules.specs.VolumeCalls.{isActive}
 use Rattle.rules.specs.SessionCalls.{opened, openVolume, openToken, openRule, newPut, stagePut, stageToken, stageRule}
-use Rattle.rules.specs.Commit.{commitToken, commitVolume, commitRule}
+use Rattle.rules.specs.Commit.{commitRule}
+use Rattle.rules.specs.Calls.{opens, stages, commits, workRule}
+use Rattle.rules.specs.Laws.WorkCases.{WorkEffect, opening, restaging, staging, committing, WorkDoes, refuses, takes, work-cases}
 use Rattle.rules.specs.Laws.BranchLaws.{cond-case}
 use Rattle.rules.specs.Laws.Later.{ReadyFor, Ready}
 
@@ -49,39 +52,27 @@ pub record Opens (n : TokenNo) (t : Tables) (s : Session) : Type 0 where
 abbrev pub openedBy : {n : TokenNo} {t : Tables} {s : Session} → Opens n t s → Session
 openedBy o = opened (o .token .no) (o .volume .no) (o .volume .version)
 
-open-volume-found : (n : TokenNo) (t : Tables) (s : Session) (i : ℕ) (k : Token) (h : Hit Volume) → busy s ≡ false → tokenOf n t ≡ hit i k
-    → inWindow (t .clock) (k .scope) ≡ true → canWrite (k .scope .mode) ≡ true → volumeOf (k .volume) t ≡ h
-    → isAccepted (openVolume t s (k .no) h .answer) ≡ true → Opens n t s
-unfolding openVolume
-open-volume-found n t s i k miss b f w m g a = absurd (false≢true a)
-open-volume-found n t s i k (hit j v) b f w m g a =
-    let p = passed t s (not (isActive (v .status))) _ _ refl a in
-    record {
-      idle = b;
-      tokenRow = i;
-      token = k;
-      tokenFound = f;
-      window = w;
-      write = m;
-      volumeRow = j;
-      volume = v;
-      volumeFound = g;
-      active = not-false (isActive (v .status)) (p .0);
-    }
+open-effect : (t : Tables) (s : Session) {n : TokenNo} {x : Answer} {u : Tables} {r : Session} → WorkEffect t s (opens n) x u r → Opens n t s
+open-effect t s (opening n i k j v b e p q f r) = record {
+  idle = b;
+  tokenRow = i;
+  token = k;
+  tokenFound = e;
+  window = not-false (inWindow (t .clock) (k .scope)) p;
+  write = not-false (canWrite (k .scope .mode)) q;
+  volumeRow = j;
+  volume = v;
+  volumeFound = f;
+  active = not-false (isActive (v .status)) r;
+}
 
-open-token-found : (n : TokenNo) (t : Tables) (s : Session) (h : Hit Token) → busy s ≡ false → tokenOf n t ≡ h
-    → isAccepted (openToken t s h .answer) ≡ true → Opens n t s
-unfolding openToken
-open-token-found n t s miss b f a = absurd (false≢true a)
-open-token-found n t s (hit i k) b f a =
-    let p = passed t s (not (inWindow (t .clock) (k .scope))) _ _ refl a in
-    let q = passed t s (not (canWrite (k .scope .mode))) _ _ refl (p .1) in
-    open-volume-found n t s i k (volumeOf (k .volume) t) b f (not-false (inWindow (t .clock) (k .scope)) (p .0))
-    (not-false (canWrite (k .scope .mode)) (q .0)) refl (q .1)
+open-does : (t : Tables) (s : Session) (n : TokenNo) {o : SlotOutcome} → WorkDoes t s (opens n) o → isAccepted (o .answer) ≡ true → Opens n t s
+open-does t s n (refuses m e) a = absurd (not-both a e)
+open-does t s n (takes x u r y e) a = open-effect t s e
 
 pub open-found : (n : TokenNo) (t : Tables) (s : Session) → isAccepted (openRule n t s .answer) ≡ true → Opens n t s
-unfolding openRule
-open-found n t s a = let p = passed t s (busy s) _ _ refl a in open-token-found n t s (tokenOf n t) (p .0) refl (p .1)
+unfolding workRule
+open-found n t s a = open-does t s n (work-cases t s (opens n)) a
 
 -- and what it finds decides
 pub open-so : (n : TokenNo) (t : Tables) (s : Session) (o : Opens n t s) → openRule n t s ≡ slotAccepted 0 t (openedBy o)
@@ -97,27 +88,33 @@ pub record Stages (path : List ℕ) (size : ℕ) (t : Tables) (s : Session) : Ty
   pub tokenFound : tokenOf (s .token) t ≡ hit tokenRow token
   pub covered : covers (textBytes (token .scope .prefix)) path ≡ true
 
-stage-token-found : (path : List ℕ) (size : ℕ) (x : Hash) (t : Tables) (s : Session) (h : Hit Token) → (isPath path && leb size sizeLimit) ≡ true → busy s ≡ true
-    → tokenOf (s .token) t ≡ h → isAccepted (stageToken t s path size x h .answer) ≡ true → Stages path size t s
-unfolding stageToken
-stage-token-found path size x t s miss g b f a = absurd (false≢true a)
-stage-token-found path size x t s (hit i k) g b f a =
-    let p = passed t s (not (covers (textBytes (k .scope .prefix)) path)) _ _ refl a in
-    record {
-      good = g;
-      running = b;
-      tokenRow = i;
-      token = k;
-      tokenFound = f;
-      covered = not-false (covers (textBytes (k .scope .prefix)) path) (p .0);
-    }
+stage-effect : (t : Tables) (s : Session) {path : List ℕ} {size : ℕ} {h : Hash} {x : Answer} {u : Tables} {r : Session}
+    → WorkEffect t s (stages path size h) x u r → Stages path size t s
+stage-effect t s (restaging path size x i k j old p q e r f) = record {
+  good = not-false (isPath path && leb size sizeLimit) p;
+  running = not-false (busy s) q;
+  tokenRow = i;
+  token = k;
+  tokenFound = e;
+  covered = not-false (covers (textBytes (k .scope .prefix)) path) r;
+}
+stage-effect t s (staging path size x i k p q e r f z) = record {
+  good = not-false (isPath path && leb size sizeLimit) p;
+  running = not-false (busy s) q;
+  tokenRow = i;
+  token = k;
+  tokenFound = e;
+  covered = not-false (covers (textBytes (k .scope .prefix)) path) r;
+}
+
+stage-does : (t : Tables) (s : Session) (path : List ℕ) (size : ℕ) (h : Hash) {o : SlotOutcome} → WorkDoes t s (stages path size h) o
+    → isAccepted (o .answer) ≡ true → Stages path size t s
+stage-does t s path size h (refuses m e) a = absurd (not-both a e)
+stage-does t s path size h (takes x u r y e) a = stage-effect t s e
 
 pub stage-found : (path : List ℕ) (size : ℕ) (x : Hash) (t : Tables) (s : Session) → isAccepted (stageRule path size x t s .answer) ≡ true → Stages path size t s
-unfolding stageRule
-stage-found path size x t s a =
-    let p = passed t s (not (isPath path && leb size sizeLimit)) _ _ refl a in
-    let q = passed t s (not (busy s)) _ _ refl (p .1) in
-    stage-token-found path size x t s (tokenOf (s .token) t) (not-false (isPath path && leb size sizeLimit) (p .0)) (not-false (busy s) (q .0)) refl (q .1)
+unfolding workRule
+stage-found path size x t s a = stage-does t s path size x (work-cases t s (stages path size x)) a
 
 pub stage-so : (path : List ℕ) (size : ℕ) (x : Hash) (t : Tables) (s : Session) → Stages path size t s
     → stageRule path size x t s ≡ stagePut t s (newPut path size x) (find (isPut path) (staged s))
@@ -174,31 +171,23 @@ pub open-before : (n : TokenNo) (t : Tables) (s : Session) → isAccepted (openR
 open-before n t s a t′ b = absurd (not-both b (open-found n t s a .idle))
 
 -- An accepted commit found the tables ready.
-commit-token-ready : (t : Tables) (s : Session) (i : ℕ) (v : Volume) (h : Hit Token) → volumeOf (s .volume) t ≡ hit i v → tokenOf (s .token) t ≡ h
-    → isAccepted (commitToken t s i v h .answer) ≡ true → ReadyFor t s
-unfolding commitToken
-commit-token-ready t s i v miss f g a = absurd (false≢true a)
-commit-token-ready t s i v (hit j k) f g a =
-    let p = passed t s _ _ _ refl a in
-    let q = passed t s _ _ _ refl (p .1) in
-    let r = passed t s _ _ _ refl (q .1) in
-    record {
-      volumeRow = i;
-      volume = v;
-      volumeFound = f;
-      active = not-false _ (q .0);
-      version = eqb-true (v .version) (s .version) (not-false _ (r .0));
-      tokenRow = j;
-      token = k;
-      tokenFound = g;
-      window = not-false _ (p .0);
-    }
+commit-effect : (t : Tables) (s : Session) {x : Answer} {u : Tables} {r : Session} → WorkEffect t s commits x u r → ReadyFor t s
+commit-effect t s (committing a) = record {
+  volumeRow = a .volume-row;
+  volume = a .volume;
+  volumeFound = a .volume-found;
+  active = not-false (isActive (a .volume .status)) (a .active);
+  version = eqb-true (a .volume .version) (s .version) (not-false (eqb (a .volume .version) (s .version)) (a .version));
+  tokenRow = a .token-row;
+  token = a .token;
+  tokenFound = a .token-found;
+  window = not-false (inWindow (t .clock) (a .token .scope)) (a .window);
+}
 
-commit-volume-ready : (t : Tables) (s : Session) (h : Hit Volume) → volumeOf (s .volume) t ≡ h → isAccepted (commitVolume t s h .answer) ≡ true → ReadyFor t s
-unfolding commitVolume
-commit-volume-ready t s miss f a = absurd (false≢true a)
-commit-volume-ready t s (hit i v) f a = commit-token-ready t s i v (tokenOf (s .token) t) f refl a
+commit-does : (t : Tables) (s : Session) {o : SlotOutcome} → WorkDoes t s commits o → isAccepted (o .answer) ≡ true → ReadyFor t s
+commit-does t s (refuses m e) a = absurd (not-both a e)
+commit-does t s (takes x u r y e) a = commit-effect t s e
 
 pub commit-ready : (t : Tables) (s : Session) → isAccepted (commitRule t s .answer) ≡ true → Ready t s
-unfolding commitRule
-commit-ready t s a b = commit-volume-ready t s (volumeOf (s .volume) t) refl (passed t s (not (busy s)) _ _ refl a .1)
+unfolding workRule
+commit-ready t s a b = commit-does t s (work-cases t s commits) a

@@ -1,18 +1,22 @@
--- A number that was given and is in no row is in no row after any calls: "never given twice". Assumes nothing.
-use mathlib.Core.Path.{_≡_, refl, sym, ap}
+-- Numbers are "never given twice": each that is given is above all before it, and one that was given and is in no row is in no row after any
+-- calls. So the tokens that a delete drops are gone for good. Assumes nothing.
+use mathlib.Core.Path.{_≡_, refl, sym, _∙_, ap}
+use mathlib.Core.Bool.{true}
 use mathlib.Core.List.{List, [], _∷_}
-use Prim.Native.Nat.{_≤_}
+use Prim.Native.Nat.{ℕ, _+_, _≤_, _<_}
+use native.Mathlib.Omega.{arith}
 use lib.Dec.{leb}
 use lib.ListN.{getD}
-use Rattle.lists.specs.Lists.{miss}
+use Rattle.lists.specs.Lists.{Hit, miss, hit}
 use Rattle.lists.specs.SearchLaws.{miss-none, none-miss}
 use Rattle.rules.specs.declared.VolumeNo.{VolumeNo}
 use Rattle.rules.specs.declared.TokenNo.{TokenNo}
 use Rattle.rules.specs.declared.RelayNo.{RelayNo}
+use Rattle.rules.specs.declared.Account.{Account}
 use Rattle.rules.specs.declared.Volume.{Volume}
 use Rattle.rules.specs.declared.Token.{Token}
 use Rattle.rules.specs.declared.Relay.{Relay}
-use Rattle.rules.specs.declared.Session.{Session}
+use Rattle.rules.specs.declared.Answer.{Answer}
 use Rattle.rules.specs.declared.Tables.{Tables}
 use Rattle.rules.specs.declared.Desk.{Desk}
 use Rattle.rules.specs.declared.Outcome.{Outcome}
@@ -20,15 +24,20 @@ use Rattle.rules.specs.Limits.{slotRows}
 use Rattle.rules.specs.Numbers.{BAD}
 use Rattle.rules.specs.Fresh.{freshVolume, freshToken, freshRelay, freshSession}
 use Rattle.rules.specs.Tables.{isVolume, isToken, isRelay, volumeOf, tokenOf, relayOf}
-use Rattle.rules.specs.Outcome.{deskRefused}
+use Rattle.rules.specs.Outcome.{isAccepted, deskRefused}
 use Rattle.rules.specs.Sound.{sound}
-use Rattle.rules.specs.Calls.{Work, opens, stages, commits, abandons, workRule, Call, ask, onSlot, rule, step, run}
+use Rattle.rules.specs.Calls.{Ask, delete, Call, ask, onSlot, rule, step, run}
+use Rattle.rules.specs.Numbering.{NumberKind, volumes, tokens, relays, Gives, by-create, by-grant, by-attenuate, by-register, lastOf}
 use Rattle.rules.specs.Laws.BranchLaws.{cond-case}
+use Rattle.rules.specs.Laws.SoundParts.{Parts, tables-sound}
+use Rattle.rules.specs.Laws.AskCases.{Effect, creates, grants, attenuates, registers, step-effect}
+use Rattle.rules.specs.Laws.DropLaws.{delete-drops}
+use Rattle.rules.specs.Laws.AgainLaws.{token-given, token-same}
 use Rattle.rules.specs.Laws.Later.{Later}
 use Rattle.rules.specs.Laws.LaterLaws.{later-refl, later-trans, ask-later}
 use Rattle.rules.specs.Laws.SlotLaws.{work-does}
 use Rattle.rules.specs.Laws.OnceRows.{none-back}
-use Rattle.rules.specs.Laws.OnceLaws.{NumbersOnce, numbers-refl, numbers-on, ask-once, commit-once}
+use Rattle.rules.specs.Laws.OnceLaws.{NumbersOnce, numbers-refl, numbers-on, ask-once, work-once}
 
 -- what is said of the three kinds after some calls
 record Onward (t u : Tables) : Type 0 where
@@ -43,14 +52,6 @@ onward-on t u w p q = record {
   tokens = later-trans t u w (p .tokens) (q .tokens);
   others = numbers-on t u w (p .others) (q .others);
 }
-
--- only a commit changes the tables
-work-once : (w : Work) (t : Tables) (s : Session) → NumbersOnce t (workRule w t s .tables)
-unfolding workRule
-work-once (opens n) t s = rw (work-does (opens n) t s .silent tt) (numbers-refl t)
-work-once (stages path size h) t s = rw (work-does (stages path size h) t s .silent tt) (numbers-refl t)
-work-once commits t s = commit-once t s
-work-once abandons t s = rw (work-does abandons t s .silent tt) (numbers-refl t)
 
 rule-onward : (c : Call) (d : Desk) → Onward (d .tables) (rule c d .desk .tables)
 unfolding rule
@@ -100,3 +101,48 @@ module _ (cs : List Call) (d : Desk) where
       none-miss (isRelay n) (after .relays) 0
       (none-back (λ (r : Relay). r .no .0) freshRelay (n .0) (before .«last_relay») (before .relays) (after .relays) refl h
       (calls-onward cs d .others .relays .once) (miss-none (isRelay n) (before .relays) 0 e))
+
+-- An accepted call that gives a number gives the next one.
+next-given : (t : Tables) {k : NumberKind} {a : Ask} {x : Answer} {u : Tables} → Effect t a x u → Gives k a
+    → (x .value ≡ lastOf k t + 1) × (lastOf k u ≡ x .value)
+next-given t (creates a name k m cap i old p q r e) (by-create a′ name′ k′ m′ cap′) = (refl, refl)
+next-given t (grants a n s i v j old p e q r z f) (by-grant a′ n′ s′) = (refl, refl)
+next-given t (attenuates n s i k j old p e q r z f) (by-attenuate n′ s′) = (refl, refl)
+next-given t (registers capacity i old p q e) (by-register capacity′) = (refl, refl)
+
+pub number-next : (k : NumberKind) (a : Ask) → Gives k a → (d : Desk) → isAccepted (step (ask a) d .answer) ≡ true
+    → (step (ask a) d .answer .value ≡ lastOf k (d .tables) + 1) × (lastOf k (step (ask a) d .desk .tables) ≡ step (ask a) d .answer .value)
+number-next k a g d y = next-given (d .tables) (step-effect a d y .1) g
+
+-- last numbers never fall
+last-grown : (k : NumberKind) (cs : List Call) (d : Desk) → lastOf k (d .tables) ≤ lastOf k (run cs d .tables)
+last-grown volumes cs d = calls-onward cs d .others .volumes .grown
+last-grown tokens cs d = calls-onward cs d .tokens .last
+last-grown relays cs d = calls-onward cs d .others .relays .grown
+
+pub number-once : (k : NumberKind) (a b : Ask) → Gives k a → Gives k b → (d : Desk) (cs : List Call) → isAccepted (step (ask a) d .answer) ≡ true
+    → isAccepted (step (ask b) (run cs (step (ask a) d .desk)) .answer) ≡ true
+    → step (ask a) d .answer .value < step (ask b) (run cs (step (ask a) d .desk)) .answer .value
+number-once k a b g h d cs y z =
+    let e = step (ask a) d .desk in
+    omega (arith, number-next k a g d y .1, last-grown k cs e, number-next k b h (run cs e) z .0)
+
+-- A delete: none of the volume's tokens is found again.
+module _ (a : Account) (n : VolumeNo) (d : Desk) (y : isAccepted (step (ask (delete a n)) d .answer) ≡ true) (m : TokenNo) (j : ℕ) (k : Token)
+    (found : tokenOf m (d .tables) ≡ hit j k) (own : k .volume ≡ n) where
+  abbrev left : Desk
+  left = step (ask (delete a n)) d .desk
+
+  parts : Parts (d .tables)
+  parts = tables-sound d (step-effect (delete a n) d y .0)
+
+  gone : (h : Hit Token) → tokenOf m (left .tables) ≡ h → h ≡ miss
+  gone miss e = refl
+  gone (hit i x) e =
+      let same = token-same m (d .tables) (left .tables) j i k x parts (call-onward (ask (delete a n)) d .tokens) found e in
+      absurd (delete-drops (d .tables) (step-effect (delete a n) d y .1) m i x e (sym (same .volume) ∙ own))
+
+  pub deleted-gone : (cs : List Call) → tokenOf m (run cs left .tables) ≡ miss
+  deleted-gone cs =
+      token-gone cs left m (omega (arith, token-given m (d .tables) j k parts found, call-onward (ask (delete a n)) d .tokens .last))
+      (gone (tokenOf m (left .tables)) refl)

@@ -120,14 +120,6 @@ pub record SlotFollows (t : Tables) (o : SlotOutcome) : Type 0 where
   pub tables : Follows t (o .tables)
   pub slot : SlotSound (o .tables) (o .session)
 
--- a call on a slot leaves the tables as they are, and a sound slot
-pub record SlotKeeps (t : Tables) (o : SlotOutcome) : Type 0 where
-  pub same : o .tables ≡ t
-  pub slot : SlotSound t (o .session)
-
-pub slot-follows : (t : Tables) (o : SlotOutcome) → Invariant t → SlotKeeps t o → SlotFollows t o
-slot-follows t o i k = record { tables = rw (k .same) (follows-self i); slot = rw (k .same) (k .slot) }
-
 -- a freed slot
 pub fresh-slot : (t : Tables) → SlotSound t freshSession
 fresh-slot t = record { session = idle-session t freshSession refl; places = refl }

@@ -6,11 +6,11 @@ use mathlib.Core.Logic.{⊎-elim}
 use mathlib.Core.List.{List, []}
 use Prim.Native.Nat.{ℕ, suc, _+_, _≤_, _<_}
 use native.Mathlib.Omega.{arith}
-use borrow.Author.Tests.{leb-false, le-leb, ltb-false, eqb-true, eqb-false}
-use lib.Dec.{eqb, leb}
+use borrow.Author.Tests.{le-leb, ltb-false, eqb-true, eqb-false}
+use lib.Dec.{eqb}
 use lib.ListN.{length, getD, set, length-set}
 use lib.Seq.{getD-set-same, getD-set-other}
-use Rattle.lists.specs.Lists.{Hit, miss, hit, find, allOf, anyOf}
+use Rattle.lists.specs.Lists.{hit, find, allOf, anyOf}
 use Rattle.lists.specs.BoolLaws.{and-left, and-right, pass-or-fail}
 use Rattle.lists.specs.TestLaws.{all-at, any-at, all-weaker}
 use Rattle.lists.specs.SearchLaws.{found-at, row-passes}
@@ -19,21 +19,18 @@ use Rattle.rules.specs.declared.TokenNo.{TokenNo}
 use Rattle.rules.specs.declared.Token.{Token}
 use Rattle.rules.specs.declared.Tables.{Tables}
 use Rattle.rules.specs.Limits.{lastNumber, deepest}
-use Rattle.rules.specs.Numbers.{SPENT}
 use Rattle.rules.specs.Fresh.{freshToken}
 use Rattle.rules.specs.Tables.{usedToken, freeToken, isToken, isVolume, withTokens, withLastToken}
 use Rattle.rules.specs.Scope.{ScopeArg, scopeFits, toScope, onHit, chain, family, depth}
-use Rattle.rules.specs.Outcome.{refused}
 use Rattle.rules.specs.Sound.{soundToken, volumeThere, parentThere}
-use Rattle.rules.specs.TokenCalls.{tokenIn, nextToken, newToken}
+use Rattle.rules.specs.TokenCalls.{nextToken, granted}
 use Rattle.rules.specs.Laws.MappedLaws.{mapHit, found-any}
 use Rattle.rules.specs.Laws.RoomLaws.{no-zero}
 use Rattle.rules.specs.Laws.SetLaws.{all-set, find-set}
-use Rattle.rules.specs.Laws.BranchLaws.{cond-case}
 use Rattle.rules.specs.Laws.NumberLaws.{numbered-used, numbered-eq, numbered-other, found-passes, new-number}
 use Rattle.rules.specs.Laws.RowFacts.{token-facts, facts-token, count-facts, facts-counts}
 use Rattle.rules.specs.Laws.RowsKept.{given-le, le-given, token-grown}
-use Rattle.rules.specs.Laws.Invariant.{Whole, Keeps, keeps-self, keeps-on, counts-grow}
+use Rattle.rules.specs.Laws.Invariant.{Whole, Keeps, keeps-on, counts-grow}
 use Rattle.rules.specs.Laws.ChainLaws.{chain-same}
 use Rattle.rules.specs.Laws.Family.{FamilyInOneVolume}
 use Rattle.rules.specs.Laws.TokensChange.{tokens-change}
@@ -159,10 +156,9 @@ module _ (t : Tables) (inv : Whole t) (v : VolumeNo) (parent : TokenNo) (a : Sco
   unfolding chain
   short = family .short
 
-  new-in : t .«last_token» < lastNumber → (h : Hit Token) → find freeToken (t .tokens) ≡ h → Keeps t (tokenIn t k h .tables)
-  unfolding tokenIn volumeThere scopeFits parentThere
-  new-in room miss e = keeps-self inv
-  new-in room (hit i old) e =
+  pub new-keeps : t .«last_token» < lastNumber → (i : ℕ) (old : Token) → find freeToken (t .tokens) ≡ hit i old → Keeps t (granted t i k)
+  unfolding volumeThere scopeFits parentThere
+  new-keeps room i old e =
       let u = w t inv room i old e k refl above in
       token-keeps t inv room i old e k refl above
       (facts-token u k
@@ -177,9 +173,3 @@ module _ (t : Tables) (inv : Whole t) (v : VolumeNo) (parent : TokenNo) (a : Sco
         used = refl;
       }))
       (one-volume t inv room i old e k refl above (family .volume))
-
-  pub new-keeps : Keeps t (newToken t v parent (toScope a) .tables)
-  unfolding newToken
-  new-keeps =
-      cond-case (λ o. Keeps t (o .tables)) (leb lastNumber (t .«last_token»)) (refused t SPENT) _ (λ b. keeps-self inv)
-      (λ b. new-in (leb-false lastNumber (t .«last_token») b) (find freeToken (t .tokens)) refl)

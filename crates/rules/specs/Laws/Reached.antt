@@ -8,19 +8,16 @@ use Rattle.rules.specs.declared.Desk.{Desk}
 use Rattle.rules.specs.Fresh.{freshDesk}
 use Rattle.rules.specs.Sound.{sound}
 use Rattle.rules.specs.Calls.{Call, rule, step, run}
-use Rattle.rules.specs.Laws.AdvanceSound.{advance-follows}
-use Rattle.rules.specs.Laws.RemoveSound.{remove-follows}
-use Rattle.rules.specs.Laws.CommitSound.{commit-follows}
 use Rattle.rules.specs.Laws.StaysSound.{DeskInvariant, stays, stays-on}
 use Rattle.rules.specs.Laws.FreshSound.{fresh-holds}
 
 -- one call
 pub call-keeps : (c : Call) (d : Desk) → DeskInvariant d → DeskInvariant (step c d .desk)
-call-keeps = stays advance-follows remove-follows commit-follows
+call-keeps = stays
 
 -- a list of calls
 pub calls-keep : (cs : List Call) (d : Desk) → DeskInvariant d → DeskInvariant (run cs d)
-calls-keep = stays-on advance-follows remove-follows commit-follows
+calls-keep = stays-on
 
 module _ (rate : ℕ) (cs : List Call) where
   pub reached-holds : DeskInvariant (run cs (freshDesk rate))

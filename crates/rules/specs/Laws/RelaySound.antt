@@ -6,7 +6,7 @@ use mathlib.Core.List.{List}
 use Prim.Native.Nat.{ℕ, _+_, _≤_, _<_}
 use native.Mathlib.Omega.{arith}
 use borrow.Author.Tests.{leb-false, le-leb, ltb-false, eq-eqb, eqb-true}
-use lib.Dec.{eqb, leb, ltb}
+use lib.Dec.{leb, ltb}
 use lib.ListN.{length, getD, set, length-set}
 use Rattle.lists.specs.Lists.{Hit, miss, hit, find, allOf, sumOf, noClash}
 use Rattle.lists.specs.BoolLaws.{and-left, and-right, pass-or-fail, not-pass}
@@ -19,21 +19,17 @@ use Rattle.rules.specs.declared.Placement.{Placement}
 use Rattle.rules.specs.declared.Entry.{Entry}
 use Rattle.rules.specs.declared.Relay.{Relay}
 use Rattle.rules.specs.declared.Tables.{Tables}
-use Rattle.rules.specs.declared.TablesOutcome.{TablesOutcome}
 use Rattle.rules.specs.Limits.{capacityLimit, lastNumber}
-use Rattle.rules.specs.Numbers.{BAD, SPENT, NO-RELAY}
 use Rattle.rules.specs.Fresh.{noRelay, freshEntry, freshRelay}
-use Rattle.rules.specs.Tables.{usedEntry, usedRelay, freeRelay, isRelay, isVolume, relayOf, withRelays, withLastRelay, withBeat}
-use Rattle.rules.specs.Relays.{health, placedOn, sameRelay, holdsShard, bytesOn, shardsOn}
-use Rattle.rules.specs.Outcome.{refused}
+use Rattle.rules.specs.Tables.{usedEntry, usedRelay, isRelay, isVolume, relayOf, withRelays, withLastRelay, withBeat}
+use Rattle.rules.specs.Relays.{placedOn, sameRelay, holdsShard, bytesOn, shardsOn}
 use Rattle.rules.specs.Sound.{relayGiven, soundPlacement, soundIn, soundVolume, soundEntry, soundToken, soundRelay, sameRelayRow}
-use Rattle.rules.specs.RelayCalls.{newRelay, registerIn, registerRule, heartbeatIn, heartbeatRule}
+use Rattle.rules.specs.RelayCalls.{newRelay, registered, beaten}
 use Rattle.rules.specs.Laws.SetLaws.{all-set}
-use Rattle.rules.specs.Laws.BranchLaws.{cond-case}
 use Rattle.rules.specs.Laws.NumberLaws.{numbered-used, found-passes, same-number, new-number}
 use Rattle.rules.specs.Laws.RowFacts.{entry-facts, relay-facts, facts-relay, count-facts, facts-counts}
 use Rattle.rules.specs.Laws.RowsKept.{Grown, given-le, le-given, volume-grown, entry-grown, relay-grown, token-stays}
-use Rattle.rules.specs.Laws.Invariant.{Whole, Keeps, keeps-self, keeps-on, counts-grow}
+use Rattle.rules.specs.Laws.Invariant.{Whole, Keeps, keeps-on, counts-grow}
 
 -- no sound entry has a shard on a relay whose number was not given
 module _ (t : Tables) (n : RelayNo) (new : t .«last_relay» < n .0) where
@@ -170,7 +166,7 @@ module _ (t : Tables) (inv : Whole t) where
           held = f .held;
         })
 
-    beat-keeps : Keeps t (withRelays t (set (t .relays) i beating))
+    pub beat-keeps : Keeps t (beaten t i r)
     unfolding relayOf
     beat-keeps =
         relays-change t (set (t .relays) i beating) inv (length-set (t .relays) i beating)
@@ -178,29 +174,6 @@ module _ (t : Tables) (inv : Whole t) where
         (same-number (λ x. x .no .0) (t .relays) i beating freshRelay (ap (λ (x : Relay). x .no .0) (sym (found-at (isRelay n) (t .relays) i r found freshRelay)))
         ∙ inv .parts .relay-numbers)
 
-pub register-keeps : (capacity : ℕ) (t : Tables) → Whole t → Keeps t (registerRule capacity t .tables)
-unfolding registerRule registerIn
-register-keeps capacity t inv =
-    cond-case P (ltb capacityLimit capacity) (refused t BAD) _ (λ b. keeps-self inv)
-    (λ b. cond-case P (leb lastNumber (t .«last_relay»)) (refused t SPENT) _ (λ e. keeps-self inv) (λ e. go b e (find freeRelay (t .relays))))
-  where
-    P : TablesOutcome → Type 0
-    P o = Keeps t (o .tables)
-
-    go : ltb capacityLimit capacity ≡ false → leb lastNumber (t .«last_relay») ≡ false → (h : Hit Relay)
-        → P (registerIn t (newRelay (t .«last_relay» + 1) capacity (t .clock)) h)
-    go b e miss = keeps-self inv
-    go b e (hit i old) =
-        register-new t inv (leb-false lastNumber (t .«last_relay») e) i _ (omega arith) (ltb-false capacityLimit capacity b) refl refl refl
-
-pub heartbeat-keeps : (n : RelayNo) (t : Tables) → Whole t → Keeps t (heartbeatRule n t .tables)
-unfolding heartbeatRule heartbeatIn
-heartbeat-keeps n t inv = go (relayOf n t) refl
-  where
-    P : TablesOutcome → Type 0
-    P o = Keeps t (o .tables)
-
-    go : (h : Hit Relay) → relayOf n t ≡ h → P (heartbeatIn t h)
-    go miss e = keeps-self inv
-    go (hit i r) e =
-        cond-case P (eqb (health (t .clock) r) 0) (refused t NO-RELAY) _ (λ b. keeps-self inv) (λ b. beat-keeps t inv n i r e)
+  pub register-keeps : (capacity i : ℕ) → ltb capacityLimit capacity ≡ false → leb lastNumber (t .«last_relay») ≡ false
+      → Keeps t (registered t i (newRelay (t .«last_relay» + 1) capacity (t .clock)))
+  register-keeps capacity i p q = register-new (leb-false lastNumber (t .«last_relay») q) i _ (omega arith) (ltb-false capacityLimit capacity p) refl refl refl

@@ -7,28 +7,27 @@ use Prim.Native.Nat.{ℕ}
 use native.Mathlib.Nat.{le-refl}
 use borrow.Author.Tests.{not-false}
 use lib.Dec.{eqb, leb}
-use Rattle.lists.specs.Lists.{Hit, miss, hit, anyOf}
+use Rattle.lists.specs.Lists.{anyOf}
 use Rattle.serial.specs.Second.{Kind}
 use Rattle.serial.specs.Laws.{Silent, Ends}
-use Rattle.rules.specs.declared.TokenNo.{TokenNo}
-use Rattle.rules.specs.declared.Hash.{Hash}
 use Rattle.rules.specs.declared.Placement.{Placement}
 use Rattle.rules.specs.declared.Volume.{Volume}
 use Rattle.rules.specs.declared.Token.{Token}
 use Rattle.rules.specs.declared.Relay.{Relay}
 use Rattle.rules.specs.declared.Put.{Put}
 use Rattle.rules.specs.declared.Session.{Session}
+use Rattle.rules.specs.declared.Answer.{Answer}
 use Rattle.rules.specs.declared.Tables.{Tables}
 use Rattle.rules.specs.declared.SlotOutcome.{SlotOutcome}
 use Rattle.rules.specs.Limits.{slotRows}
 use Rattle.rules.specs.Numbers.{BAD}
 use Rattle.rules.specs.Fresh.{freshSession}
-use Rattle.rules.specs.Tables.{given, busy, staged, isToken, tokenOf}
+use Rattle.rules.specs.Tables.{busy, staged, isToken}
 use Rattle.rules.specs.Scope.{family}
 use Rattle.rules.specs.Outcome.{isAccepted, slotRefused, slotAccepted}
-use Rattle.rules.specs.SessionCalls.{openVolume, openToken, openRule, stagePut, stageToken, stageRule, abandonRule}
-use Rattle.rules.specs.Commit.{stagedBytes, Placed, noPlace, placed, charged, committed, commitPlaced, commitLimits, commitToken, commitVolume, commitRule}
+use Rattle.rules.specs.Commit.{stagedBytes, charged, committed}
 use Rattle.rules.specs.Calls.{Work, opens, stages, commits, abandons, workRule}
+use Rattle.rules.specs.Laws.WorkCases.{WorkEffect, opening, restaging, staging, committing, abandoning, WorkDoes, refuses, takes, work-cases}
 use Rattle.rules.specs.Laws.BranchLaws.{cond-case}
 use Rattle.rules.specs.Serial.{kindOf}
 use Rattle.rules.specs.Laws.Later.{SameToken, Later, Tidy}
@@ -82,33 +81,6 @@ does-end k t t′ s v i l = record {
 busy-tidy : (s : Session) → busy s ≡ true → Tidy s
 busy-tidy s g b = absurd (true≢false (sym g ∙ b))
 
-open-volume-does : (t : Tables) (s : Session) (n : TokenNo) (h : Hit Volume) → given (n .0) ≡ true → Does Kind.opens t s (openVolume t s n h)
-unfolding openVolume
-open-volume-does t s n miss g = does-refused Kind.opens t s _ refl
-open-volume-does t s n (hit i v) g = search (does-check, does-prepare, busy-tidy)
-
-open-token-does : (t : Tables) (s : Session) (n : TokenNo) (h : Hit Token) → tokenOf n t ≡ h → Does Kind.opens t s (openToken t s h)
-unfolding openToken
-open-token-does t s n miss e = does-refused Kind.opens t s _ refl
-open-token-does t s n (hit i k) e =
-    let g = token-used n t i k e in
-    search (does-check, open-volume-does)
-
-stage-put-does : (t : Tables) (s : Session) (p : Put) (h : Hit Put) → busy s ≡ true → Does Kind.stages t s (stagePut t s p h)
-unfolding stagePut
-stage-put-does t s p (hit j old) g = search (does-prepare, busy-tidy)
-stage-put-does t s p miss g = search (does-check, does-prepare, busy-tidy)
-
-stage-token-does : (t : Tables) (s : Session) (path : List ℕ) (size : ℕ) (x : Hash) (h : Hit Token) → busy s ≡ true
-    → Does Kind.stages t s (stageToken t s path size x h)
-unfolding stageToken
-stage-token-does t s path size x miss g = does-refused Kind.stages t s _ refl
-stage-token-does t s path size x (hit i k) g = search (does-check, stage-put-does)
-
-stage-does : (path : List ℕ) (size : ℕ) (x : Hash) (t : Tables) (s : Session) → Does Kind.stages t s (stageRule path size x t s)
-unfolding stageRule
-stage-does path size x t s = search (does-check, stage-token-does, not-false)
-
 -- a commit changes no token but in its used bytes
 charged-same : (ks : List Token) (bytes : ℕ) (k : Token) → SameToken k (charged ks bytes k)
 unfolding charged
@@ -122,32 +94,22 @@ committed-later t i v k ps places rs = record {
   kept = kept-map (t .«last_token») _ (t .tokens) (charged-same (family (t .tokens) k) (stagedBytes ps));
 }
 
-commit-placed-does : (t : Tables) (s : Session) (i : ℕ) (v : Volume) (k : Token) (p : Placed) → Does Kind.commits t s (commitPlaced t s i v k p)
-unfolding commitPlaced
-commit-placed-does t s i v k noPlace = does-refused Kind.commits t s _ refl
-commit-placed-does t s i v k (placed places rs) = does-end Kind.commits t _ s _ (λ x. absurd x) (committed-later t i v k (staged s) places rs)
-
-commit-limits-does : (t : Tables) (s : Session) (i : ℕ) (v : Volume) (k : Token) → Does Kind.commits t s (commitLimits t s i v k)
-unfolding commitLimits
-commit-limits-does t s i v k = search (does-check, commit-placed-does)
-
-commit-token-does : (t : Tables) (s : Session) (i : ℕ) (v : Volume) (h : Hit Token) → Does Kind.commits t s (commitToken t s i v h)
-unfolding commitToken
-commit-token-does t s i v miss = does-refused Kind.commits t s _ refl
-commit-token-does t s i v (hit j k) = search (does-check, commit-limits-does)
-
-commit-volume-does : (t : Tables) (s : Session) (h : Hit Volume) → Does Kind.commits t s (commitVolume t s h)
-unfolding commitVolume
-commit-volume-does t s miss = does-refused Kind.commits t s _ refl
-commit-volume-does t s (hit i v) = commit-token-does t s i v (tokenOf (s .token) t)
-
 -- each of the four
+effect-does : (t : Tables) (s : Session) {w : Work} {x : Answer} {u : Tables} {r : Session} → WorkEffect t s w x u r
+    → Does (kindOf w) t s (record { answer = x; tables = u; session = r })
+effect-does t s (opening n i k j v b e p q f r) = does-prepare Kind.opens t s _ _ (λ z. z) (λ y. busy-tidy _ (token-used n t i k e))
+effect-does t s (restaging path size x i k j old p q e r f) = does-prepare Kind.stages t s _ _ (λ z. z) (λ y. busy-tidy _ (not-false (busy s) q))
+effect-does t s (staging path size x i k p q e r f z) = does-prepare Kind.stages t s _ _ (λ z. z) (λ y. busy-tidy _ (not-false (busy s) q))
+effect-does t s (committing a) =
+    does-end Kind.commits t _ s _ (λ z. absurd z) (committed-later t (a .volume-row) (a .volume) (a .token) (staged s) (a .places) (a .relays))
+effect-does t s (abandoning b) = does-end Kind.abandons t t s _ (λ z. refl) (later-refl t)
+
 pub work-does : (w : Work) (t : Tables) (s : Session) → Does (kindOf w) t s (workRule w t s)
-unfolding workRule openRule commitRule abandonRule
-work-does (opens n) t s = search (does-check, open-token-does t s n (tokenOf n t) refl)
-work-does (stages path size x) t s = stage-does path size x t s
-work-does commits t s = search (does-check, commit-volume-does)
-work-does abandons t s = search (does-check, does-end, later-refl)
+work-does w t s = go (work-cases t s w)
+  where
+    go : {o : SlotOutcome} → WorkDoes t s w o → Does (kindOf w) t s o
+    go (refuses n e) = does-refused (kindOf w) t s n e
+    go (takes x u r y e) = effect-does t s e
 
 -- a call on a slot: 1 for the slot itself, then its rule
 abbrev pub slotRule : ℕ → Work → Tables → Session → SlotOutcome

@@ -3,44 +3,48 @@
 -- the test, lacks the last, and fails the test after a delete). What advance, remove and commit keep is taken as given here: Reached supplies
 -- it.
 use mathlib.Core.Path.{_≡_, _∙_}
-use mathlib.Core.Bool.{Bool, true}
+use mathlib.Core.Bool.{Bool, true, _&&_}
 use mathlib.Core.List.{List, [], _∷_}
 use Prim.Native.Nat.{ℕ, _<_}
 use native.Mathlib.Omega.{arith}
-use borrow.Author.Tests.{leb-false, eqb-true, eq-eqb}
+use borrow.Author.Tests.{not-false, leb-false, eqb-true, eq-eqb}
 use lib.Dec.{eqb, leb}
 use lib.ListN.{length, getD, length-set}
 use Rattle.lists.specs.Lists.{allOf}
 use Rattle.lists.specs.TestLaws.{all-at, all-weaker}
-use Rattle.rules.specs.declared.VolumeNo.{VolumeNo}
-use Rattle.rules.specs.declared.Account.{Account}
+use Rattle.text.specs.Text.{isName, isPath}
+use Rattle.rules.specs.declared.Answer.{Answer}
 use Rattle.rules.specs.declared.Session.{Session}
 use Rattle.rules.specs.declared.Tables.{Tables}
 use Rattle.rules.specs.declared.Desk.{Desk}
 use Rattle.rules.specs.declared.Outcome.{Outcome}
 use Rattle.rules.specs.declared.SlotOutcome.{SlotOutcome}
-use Rattle.rules.specs.Limits.{slotRows, putRows}
+use Rattle.rules.specs.Limits.{slotRows, putRows, sizeLimit, lastNumber}
 use Rattle.rules.specs.Numbers.{BAD}
+use Rattle.rules.specs.Tables.{busy, volumeOf}
+use Rattle.rules.specs.Scope.{capFits}
 use Rattle.rules.specs.Fresh.{freshSession}
 use Rattle.rules.specs.Outcome.{deskRefused}
-use Rattle.rules.specs.Sound.{soundSession, sound}
+use Rattle.rules.specs.Sound.{shardsFit, soundSession, sound}
 use Rattle.rules.specs.Laws.SoundParts.{tables-sound, slots-sound, desk-sound}
-use Rattle.rules.specs.Advance.{advanceRule}
-use Rattle.rules.specs.VolumeCalls.{removeRule}
-use Rattle.rules.specs.SessionCalls.{openRule, stageRule, abandonRule}
-use Rattle.rules.specs.Commit.{commitRule}
-use Rattle.rules.specs.Calls.{Ask, advance, create, deposit, delete, undelete, grant, attenuate, revoke, remove, look, register, heartbeat, askRule, Work, opens, stages, commits, abandons, workRule, Call, ask, onSlot, withSlot, rule, step, run}
+use Rattle.rules.specs.Calls.{Ask, askRule, Work, workRule, Call, ask, onSlot, withSlot, rule, step, run}
+use Rattle.rules.specs.Laws.AskCases.{Effect, advances, creates, deposits, deletes, undeletes, grants, attenuates, revokes, removes, looks, registers, beats, ask-tables}
+use Rattle.rules.specs.Laws.CommitCases.{tablesOf}
+use Rattle.rules.specs.Laws.WorkCases.{WorkEffect, opening, restaging, staging, committing, abandoning, WorkDoes, refuses, takes, work-cases}
 use Rattle.rules.specs.Laws.Shape.{Shape}
 use Rattle.rules.specs.Laws.Family.{FamilyInOneVolume}
 use Rattle.rules.specs.Laws.SetLaws.{all-set}
 use Rattle.rules.specs.Laws.BranchLaws.{cond-case}
 use Rattle.rules.specs.Laws.RowsKept.{session-grown}
-use Rattle.rules.specs.Laws.Invariant.{Invariant, Follows, whole-of, follows, SlotSound, SlotFollows, slot-follows}
+use Rattle.rules.specs.Laws.Invariant.{Invariant, Follows, follows-self, whole-of, follows, SlotSound, SlotFollows, fresh-slot}
 use Rattle.rules.specs.Laws.CreateSound.{create-keeps}
 use Rattle.rules.specs.Laws.VolumeSound.{deposit-keeps, delete-keeps, undelete-keeps}
-use Rattle.rules.specs.Laws.TokenSound.{grant-keeps, attenuate-keeps, revoke-keeps, look-keeps}
-use Rattle.rules.specs.Laws.RelaySound.{register-keeps, heartbeat-keeps}
-use Rattle.rules.specs.Laws.SessionSound.{open-keeps, stage-keeps, abandon-keeps}
+use Rattle.rules.specs.Laws.TokenSound.{grant-keeps, attenuate-keeps, revoke-keeps}
+use Rattle.rules.specs.Laws.RelaySound.{register-keeps, beat-keeps}
+use Rattle.rules.specs.Laws.RemoveSound.{removed-follows}
+use Rattle.rules.specs.Laws.AdvanceSound.{advance-follows}
+use Rattle.rules.specs.Laws.CommitSound.{commit-follows}
+use Rattle.rules.specs.Laws.SessionSound.{opened-sound, replaced, appended}
 
 -- a slot has its places for puts
 abbrev pub hasPlaces : Session → Bool
@@ -94,48 +98,68 @@ module _ (d : Desk) (i : DeskInvariant d) where
         places = all-set hasPlaces (d .sessions) j s (i .places) (eq-eqb (length (s .puts)) putRows (f .slot .places));
       }
 
--- what advance, remove and commit keep
-module _ (advances : (block : ℕ) (t : Tables) → Invariant t → Follows t (advanceRule block t .tables))
-    (removes : (a : Account) (n : VolumeNo) (path : List ℕ) (t : Tables) → Invariant t → Follows t (removeRule a n path t .tables))
-    (finishes : (t : Tables) → Invariant t → (s : Session) → SlotSound t s → SlotFollows t (commitRule t s)) where
-  ask-follows : (a : Ask) (t : Tables) → Invariant t → Follows t (askRule a t .tables)
-  unfolding askRule
-  ask-follows (advance block) t i = advances block t i
-  ask-follows (create a name k m cap) t i = follows i (create-keeps a name k m cap t (whole-of i))
-  ask-follows (deposit v coins) t i = follows i (deposit-keeps v coins t (whole-of i))
-  ask-follows (delete a v) t i = follows i (delete-keeps a v t (whole-of i) (i .family))
-  ask-follows (undelete a v) t i = follows i (undelete-keeps a v t (whole-of i))
-  ask-follows (grant a v s) t i = follows i (grant-keeps a v s t (whole-of i))
-  ask-follows (attenuate k s) t i = follows i (attenuate-keeps k s t (whole-of i))
-  ask-follows (revoke a k) t i = follows i (revoke-keeps a k t (whole-of i))
-  ask-follows (remove a v path) t i = removes a v path t i
-  ask-follows (look k path) t i = follows i (look-keeps k path t (whole-of i))
-  ask-follows (register capacity) t i = follows i (register-keeps capacity t (whole-of i))
-  ask-follows (heartbeat r) t i = follows i (heartbeat-keeps r t (whole-of i))
+-- each call on the tables
+effect-follows : (t : Tables) → Invariant t → {a : Ask} {x : Answer} {u : Tables} → Effect t a x u → Follows t u
+unfolding volumeOf
+effect-follows t i (advances block b) = advance-follows block t i b
+effect-follows t i (creates a name k m cap j old p q r e) =
+    follows i (create-keeps t (whole-of i) a name k m cap (not-false (isName name && shardsFit k m && capFits cap) p) q (leb-false lastNumber (t .«last_volume») r) j old e)
+effect-follows t i (deposits n coins j v e p q) = follows i (deposit-keeps t (whole-of i) n j v e coins q)
+effect-follows t i (deletes a n j v e p q) = follows i (delete-keeps t (whole-of i) n j v e (i .family))
+effect-follows t i (undeletes a n j v e p q) = follows i (undelete-keeps t (whole-of i) n j v e)
+effect-follows t i (grants a n s j v l old p e q r z f) = follows i (grant-keeps t (whole-of i) s p z l old f n j v e)
+effect-follows t i (attenuates n s j k l old p e q r z f) = follows i (attenuate-keeps t (whole-of i) s p z l old f n j k e r)
+effect-follows t i (revokes a n j k l v e f p) = follows i (revoke-keeps t (whole-of i) k)
+effect-follows t i (removes a n path j v l e p f q r g z) = removed-follows n path t j v f i
+effect-follows t i (looks n path j k l e p f q r z g) = follows-self i
+effect-follows t i (registers capacity j old p q e) = follows i (register-keeps t (whole-of i) capacity j p q)
+effect-follows t i (beats n j r e p) = follows i (beat-keeps t (whole-of i) n j r e)
 
-  work-follows : (w : Work) (t : Tables) → Invariant t → (s : Session) → SlotSound t s → SlotFollows t (workRule w t s)
-  unfolding workRule
-  work-follows (opens k) t i s h = slot-follows t (openRule k t s) i (open-keeps t (i .parts) k s h)
-  work-follows (stages path size x) t i s h = slot-follows t (stageRule path size x t s) i (stage-keeps t path size x s h)
-  work-follows commits t i s h = finishes t i s h
-  work-follows abandons t i s h = slot-follows t (abandonRule t s) i (abandon-keeps t s h)
+ask-follows : (a : Ask) (t : Tables) → Invariant t → Follows t (askRule a t .tables)
+ask-follows a t i = ask-tables (Follows t) a t (follows-self i) (λ x u. effect-follows t i)
 
-  rule-stays : (c : Call) (d : Desk) → DeskInvariant d → DeskInvariant (rule c d .desk)
-  unfolding rule
-  rule-stays (ask a) d i = tables-follow d i (askRule a (d .tables) .tables) (ask-follows a (d .tables) (tables-of d i))
-  rule-stays (onSlot j w) d i =
-      cond-case (λ (o : Outcome). DeskInvariant (o .desk)) (leb slotRows j) (deskRefused d BAD) _ (λ b. i)
-      (λ b.
-      let h = leb-false slotRows j b in
-      slot-changes d i j _ (work-follows w (d .tables) (tables-of d i) _ (slot-of d i _ (omega arith))))
+-- each call on a slot
+slot-effect : (t : Tables) → Invariant t → (s : Session) → SlotSound t s → {w : Work} {x : Answer} {u : Tables} {r : Session} → WorkEffect t s w x u r
+    → SlotFollows t (record { answer = x; tables = u; session = r })
+slot-effect t i s h (opening n a k j v b e p q f r) = record {
+  tables = follows-self i;
+  slot = opened-sound t (i .parts) n a k e (k .volume) j v f;
+}
+slot-effect t i s h (restaging path size x a k j old p q e r f) = record {
+  tables = follows-self i;
+  slot = replaced t s h (not-false (busy s) q) path size x (not-false (isPath path && leb size sizeLimit) p) j old f;
+}
+slot-effect t i s h (staging path size x a k p q e r f z) = record {
+  tables = follows-self i;
+  slot =
+      appended t s h (not-false (busy s) q) path size x (not-false (isPath path && leb size sizeLimit) p) f (leb-false putRows (s .count) z);
+}
+slot-effect t i s h (committing a) = record { tables = commit-follows t i s (h .session) a; slot = fresh-slot (tablesOf t s a) }
+slot-effect t i s h (abandoning b) = record { tables = follows-self i; slot = fresh-slot t }
 
-  -- one call
-  pub stays : (c : Call) (d : Desk) → DeskInvariant d → DeskInvariant (step c d .desk)
-  unfolding step
-  stays c d i = cond-case (λ (o : Outcome). DeskInvariant (o .desk)) (sound d) (rule c d) (deskRefused d BAD) (λ b. rule-stays c d i) (λ b. i)
+work-follows : (w : Work) (t : Tables) → Invariant t → (s : Session) → SlotSound t s → SlotFollows t (workRule w t s)
+work-follows w t i s h = go (work-cases t s w)
+  where
+    go : {o : SlotOutcome} → WorkDoes t s w o → SlotFollows t o
+    go (refuses n e) = record { tables = follows-self i; slot = h }
+    go (takes x u r y e) = slot-effect t i s h e
 
-  -- a list of calls
-  pub stays-on : (cs : List Call) (d : Desk) → DeskInvariant d → DeskInvariant (run cs d)
-  unfolding run
-  stays-on [] d i = i
-  stays-on (c ∷ cs) d i = stays-on cs (step c d .desk) (stays c d i)
+rule-stays : (c : Call) (d : Desk) → DeskInvariant d → DeskInvariant (rule c d .desk)
+unfolding rule
+rule-stays (ask a) d i = tables-follow d i (askRule a (d .tables) .tables) (ask-follows a (d .tables) (tables-of d i))
+rule-stays (onSlot j w) d i =
+    cond-case (λ (o : Outcome). DeskInvariant (o .desk)) (leb slotRows j) (deskRefused d BAD) _ (λ b. i)
+    (λ b.
+    let h = leb-false slotRows j b in
+    slot-changes d i j _ (work-follows w (d .tables) (tables-of d i) _ (slot-of d i _ (omega arith))))
+
+-- one call
+pub stays : (c : Call) (d : Desk) → DeskInvariant d → DeskInvariant (step c d .desk)
+unfolding step
+stays c d i = cond-case (λ (o : Outcome). DeskInvariant (o .desk)) (sound d) (rule c d) (deskRefused d BAD) (λ b. rule-stays c d i) (λ b. i)
+
+-- a list of calls
+pub stays-on : (cs : List Call) (d : Desk) → DeskInvariant d → DeskInvariant (run cs d)
+unfolding run
+stays-on [] d i = i
+stays-on (c ∷ cs) d i = stays-on cs (step c d .desk) (stays c d i)

@@ -1,36 +1,31 @@
 -- Deposit, delete and undelete leave sound tables sound. Assumes nothing.
 use mathlib.Core.Path.{_≡_, refl, ap, sym, _∙_}
-use mathlib.Core.Bool.{true, false, not}
+use mathlib.Core.Bool.{true, false}
 use Prim.Native.Nat.{ℕ, _+_, _≤_}
 use native.Mathlib.Omega.{arith}
 use borrow.Author.Tests.{leb-true, le-leb, ltb-false, eqb-true}
 use lib.Dec.{leb, ltb}
 use lib.ListN.{getD, set, length-set}
 use lib.Seq.{map-set-same}
-use Rattle.lists.specs.Lists.{Hit, miss, hit}
+use Rattle.lists.specs.Lists.{hit}
 use Rattle.lists.specs.BoolLaws.{and-left, and-right, and-both, or-left, or-right, not-pass, not-both}
 use Rattle.lists.specs.SearchLaws.{found-at, row-passes}
 use Rattle.rules.specs.declared.VolumeNo.{VolumeNo}
-use Rattle.rules.specs.declared.Account.{Account}
 use Rattle.rules.specs.declared.Status.{Status}
 use Rattle.rules.specs.declared.Status.the-variants.{Active, Grace, Deleted}
 use Rattle.rules.specs.declared.Volume.{Volume}
 use Rattle.rules.specs.declared.Tables.{Tables}
-use Rattle.rules.specs.declared.TablesOutcome.{TablesOutcome}
 use Rattle.rules.specs.Limits.{balanceLimit, depositsLimit}
-use Rattle.rules.specs.Numbers.{NOT-OWNER, STATE, TOO-MUCH}
 use Rattle.rules.specs.Fresh.{freshVolume, freshToken}
-use Rattle.rules.specs.Tables.{usedToken, numbered, isVolume, ownedBy, volumeOf, withVolumes, withTokens, withDeposits, withBalance, withStatus, cleared}
-use Rattle.rules.specs.Outcome.{refused}
+use Rattle.rules.specs.Tables.{usedToken, numbered, isVolume, volumeOf, withVolumes, withDeposits, withBalance, withStatus}
 use Rattle.rules.specs.Sound.{soundStatus, soundVolume}
-use Rattle.rules.specs.VolumeCalls.{isOpen, isDeleted, tooMuch, depositIn, depositRule, isTokenOf, deleteIn, deleteRule, undeleteIn, undeleteRule}
+use Rattle.rules.specs.VolumeCalls.{tooMuch, isTokenOf, deposited, deleted, undeleted}
 use Rattle.rules.specs.Laws.RestParts.{rest-of}
 use Rattle.rules.specs.Laws.LastingLaws.{lasting, lasting-change}
 use Rattle.rules.specs.Laws.SetLaws.{all-set}
-use Rattle.rules.specs.Laws.BranchLaws.{cond-case}
 use Rattle.rules.specs.Laws.NumberLaws.{numbered-used, found-passes}
 use Rattle.rules.specs.Laws.RowFacts.{VolumeFacts, volume-facts, facts-volume, count-facts, facts-counts}
-use Rattle.rules.specs.Laws.Invariant.{Whole, Keeps, keeps-self, keeps-on, counts-grow}
+use Rattle.rules.specs.Laws.Invariant.{Whole, Keeps, keeps-on, counts-grow}
 use Rattle.rules.specs.Laws.Family.{FamilyInOneVolume}
 use Rattle.rules.specs.Laws.VolumesChange.{volumes-keep}
 use Rattle.rules.specs.Laws.TokensGo.{ParentsStay}
@@ -60,9 +55,8 @@ module _ (t : Tables) (inv : Whole t) (n : VolumeNo) (i : ℕ) (v : Volume) (fou
       (rest-of (inv .parts)))
 
   -- deposit
-  deposited : (coins : ℕ) → tooMuch t v coins ≡ false
-      → Keeps t (withDeposits (withVolumes t (set (t .volumes) i (withBalance v (v .balance + coins)))) (t .deposits + coins))
-  deposited coins b =
+  pub deposit-keeps : (coins : ℕ) → tooMuch t v coins ≡ false → Keeps t (deposited t coins i v)
+  deposit-keeps coins b =
       let w = withBalance v (v .balance + coins) in
       let f = found-facts in
       let l = or-left (ltb balanceLimit (v .balance + coins)) (ltb depositsLimit (t .deposits + coins)) b in
@@ -109,9 +103,8 @@ module _ (t : Tables) (inv : Whole t) (n : VolumeNo) (i : ℕ) (v : Volume) (fou
       let q : k .volume .0 ≡ row .volume .0 = kin j b w i k e in
       not-both (and-both w (rw q at (and-right (usedToken k) _ h))) g)
 
-  deleted : FamilyInOneVolume t → Keeps t
-      (withTokens (withVolumes t (set (t .volumes) i (withStatus v Deleted (v .grace) (t .clock)))) (cleared (isTokenOf (v .no)) freshToken (t .tokens)))
-  deleted kin =
+  pub delete-keeps : FamilyInOneVolume t → Keeps t (deleted t i v)
+  delete-keeps kin =
       let small = grace-small (t .clock) (v .status) (v .grace) (v .deleted) (found-facts .status) in
       let first =
       status-changes Deleted (v .grace) (t .clock)
@@ -119,41 +112,5 @@ module _ (t : Tables) (inv : Whole t) (n : VolumeNo) (i : ℕ) (v : Volume) (fou
       keeps-on first
       (tokens-leave (withVolumes t (set (t .volumes) i (withStatus v Deleted (v .grace) (t .clock)))) (isTokenOf (v .no)) (parents-stay kin) (first .whole))
 
-pub deposit-keeps : (n : VolumeNo) (coins : ℕ) (t : Tables) → Whole t → Keeps t (depositRule n coins t .tables)
-unfolding depositRule depositIn
-deposit-keeps n coins t inv = go (volumeOf n t) refl
-  where
-    P : TablesOutcome → Type 0
-    P o = Keeps t (o .tables)
-
-    go : (h : Hit Volume) → volumeOf n t ≡ h → P (depositIn t coins h)
-    go miss e = keeps-self inv
-    go (hit i v) e =
-        cond-case P (not (isOpen (v .status))) (refused t STATE) _ (λ b. keeps-self inv)
-        (λ b. cond-case P (tooMuch t v coins) (refused t TOO-MUCH) _ (λ c. keeps-self inv) (deposited t inv n i v e coins))
-
-pub delete-keeps : (a : Account) (n : VolumeNo) (t : Tables) → Whole t → FamilyInOneVolume t → Keeps t (deleteRule a n t .tables)
-unfolding deleteRule deleteIn
-delete-keeps a n t inv kin = go (volumeOf n t) refl
-  where
-    P : TablesOutcome → Type 0
-    P o = Keeps t (o .tables)
-
-    go : (h : Hit Volume) → volumeOf n t ≡ h → P (deleteIn t a h)
-    go miss e = keeps-self inv
-    go (hit i v) e =
-        cond-case P (not (ownedBy a v)) (refused t NOT-OWNER) _ (λ b. keeps-self inv)
-        (λ b. cond-case P (not (isOpen (v .status))) (refused t STATE) _ (λ c. keeps-self inv) (λ c. deleted t inv n i v e kin))
-
-pub undelete-keeps : (a : Account) (n : VolumeNo) (t : Tables) → Whole t → Keeps t (undeleteRule a n t .tables)
-unfolding undeleteRule undeleteIn
-undelete-keeps a n t inv = go (volumeOf n t) refl
-  where
-    P : TablesOutcome → Type 0
-    P o = Keeps t (o .tables)
-
-    go : (h : Hit Volume) → volumeOf n t ≡ h → P (undeleteIn t a h)
-    go miss e = keeps-self inv
-    go (hit i v) e =
-        cond-case P (not (ownedBy a v)) (refused t NOT-OWNER) _ (λ b. keeps-self inv)
-        (λ b. cond-case P (not (isDeleted (v .status))) (refused t STATE) _ (λ c. keeps-self inv) (λ c. status-changes t inv n i v e Active 0 0 refl))
+  pub undelete-keeps : Keeps t (undeleted t i v)
+  undelete-keeps = status-changes Active 0 0 refl
