@@ -8,7 +8,7 @@ use Prim.Native.Nat.{ℕ, _*_, _/_, _%_, _^_, _<_, _≤_}
 use native.Mathlib.Nat.{mul-div-cancel, mul-mod-left, div-add-mod'}
 use native.Mathlib.Omega.{arith}
 use borrow.Author.Tests.{eqb-true, eqb-false, leb-true, leb-false}
-use lib.Dec.{eqb, leb}
+use lib.Dec.{eqb, leb, lit≤}
 use lib.ListN.{length}
 use Rattle.amount.specs.declared.ByteUnit.{ByteUnit}
 use Rattle.amount.specs.declared.Cap.the-variants.{Unlimited, Bytes}
@@ -17,7 +17,7 @@ use Rattle.amount.specs.declared.ReadAmount.the-variants.{Read, Refused}
 use Rattle.lists.specs.Bytes.{sameBytes}
 use Rattle.amount.specs.Digits.{number, leading, following}
 use Rattle.lists.specs.ByteLaws.{same-eq, same-self}
-use Rattle.amount.specs.Amount.{limit, unlimitedText, sizeOf, Parsed, amount, noAmount, parse, counted, amountParsed, amountOf}
+use Rattle.amount.specs.Amount.{limit, unlimitedText, sizeOf, Parsed, amount, noAmount, parse, counted, amountParsed, readNumber, amountOf}
 use Rattle.amount.specs.AmountLaws.{power-pos, counted-part, counted-above, counted-read}
 
 -- The cases of a division of n by p, with what holds in each.
@@ -83,6 +83,14 @@ parsed-counted t w f u e = go (sameBytes t unlimitedText) refl
     go true q = absurd (let h : noAmount ≡ amount w f u = sym (word-no-amount t q) ∙ e in let z : _≡_ {A = ℕ} 0 1 = cc in omega arith)
     go false q = rw e
 
+-- An answer has a refusal's number exactly where it is that refusal: the theorems speak of the number.
+numbered-exactly : {A : Type 0} (r : ReadAmount) (n : ℕ) → 1 ≤ n → (r ≡ Refused n) ↔ A → (readNumber r ≡ n) ↔ A
+numbered-exactly r n h q = (λ e. q .0 (refused-of r e), λ a. ap readNumber (q .1 a))
+  where
+    refused-of : (x : ReadAmount) → readNumber x ≡ n → x ≡ Refused n
+    refused-of (Read cap) e = absurd (omega arith)
+    refused-of (Refused m) e = ap Refused e
+
 -- c bytes are what the digits and the unit say: c × 10^f ≡ digits × unit.
 abbrev pub Exactly : ℕ → List ℕ → List ℕ → ByteUnit → Type 0
 Exactly c w f u = c * 10 ^ length f ≡ number (w ++ f) * sizeOf u
@@ -94,12 +102,12 @@ module _ (t w f : List ℕ) (u : ByteUnit) (parsed : parse t ≡ amount w f u) w
   read-exactly c = rw (parsed-counted t w f u parsed) (counted-bytes _ _ (power-pos (length f)) c)
 
   -- 23 exactly where no count of bytes is what it says.
-  pub not-whole-exactly : (amountOf t ≡ Refused 23) ↔ ((c : ℕ) → Exactly c w f u → ⊥)
-  not-whole-exactly = rw (parsed-counted t w f u parsed) (counted-23 _ _ (power-pos (length f)))
+  pub not-whole-exactly : (readNumber (amountOf t) ≡ 23) ↔ ((c : ℕ) → Exactly c w f u → ⊥)
+  not-whole-exactly = numbered-exactly (amountOf t) 23 (lit≤ tt) (rw (parsed-counted t w f u parsed) (counted-23 _ _ (power-pos (length f))))
 
   -- 24 exactly where a count of bytes is what it says, and is above 2^36.
-  pub too-large-exactly : (amountOf t ≡ Refused 24) ↔ ((c : ℕ) × Exactly c w f u × (limit < c))
-  too-large-exactly = rw (parsed-counted t w f u parsed) (counted-24 _ _ (power-pos (length f)))
+  pub too-large-exactly : (readNumber (amountOf t) ≡ 24) ↔ ((c : ℕ) × Exactly c w f u × (limit < c))
+  too-large-exactly = numbered-exactly (amountOf t) 24 (lit≤ tt) (rw (parsed-counted t w f u parsed) (counted-24 _ _ (power-pos (length f))))
 
 -- What a division never answers.
 never-22 : {n p : ℕ} {r : ReadAmount} → Division n p r → r ≡ Refused 22 → ⊥
@@ -122,9 +130,10 @@ parsed-unlimited noAmount e = let z : _≡_ {A = ℕ} 0 1 = cc in omega arith
 
 module _ (t : List ℕ) where
   -- 22 exactly where the text is neither the word nor an amount by the grammar.
-  pub text-refused-exactly : (amountOf t ≡ Refused 22) ↔ ((t ≡ unlimitedText → ⊥) × (parse t ≡ noAmount))
+  pub text-refused-exactly : (readNumber (amountOf t) ≡ 22) ↔ ((t ≡ unlimitedText → ⊥) × (parse t ≡ noAmount))
   unfolding amountOf
-  text-refused-exactly = (to (sameBytes t unlimitedText) refl, λ s. from s (sameBytes t unlimitedText) refl)
+  text-refused-exactly =
+      numbered-exactly (amountOf t) 22 (lit≤ tt) (to (sameBytes t unlimitedText) refl, λ s. from s (sameBytes t unlimitedText) refl)
     where
       to : (b : Bool) → sameBytes t unlimitedText ≡ b → cond b (Read Unlimited) (amountParsed (parse t)) ≡ Refused 22 → (t ≡ unlimitedText → ⊥) × (parse t ≡ noAmount)
       to true q e = absurd (let z : _≡_ {A = ℕ} 0 1 = cc in omega arith)

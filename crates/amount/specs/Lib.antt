@@ -1,10 +1,9 @@
 -- Typed amounts. Amount and Writing are the definitions that the two contracts cite, over Digits.
--- What is proved of them: Cases, the paper's starred cases; Grammar, which texts are taken; AmountTheorems, that the
--- number is right; RoundTrip, that reading undoes writing. The others are for the proofs of the code.
+-- What is proved of them: Grammar, which texts are taken; AmountTheorems, that the number is right; RoundTrip, that reading undoes writing.
+-- The paper's starred cases stand in one table with those on other subjects, in the crate histories. The others are for the proofs of the code.
 pub mod Digits
 pub mod Amount
 pub mod Writing
-pub mod Cases
 pub mod Grammar
 pub mod AmountTheorems
 pub mod RoundTrip

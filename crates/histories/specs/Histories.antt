@@ -1,7 +1,7 @@
 -- Short histories from a fresh desk, each worked out from the definitions by computation: what the calls answer, as number and value of each.
--- There is one for each subject of document 01, for each of its "Tempting and wrong", and for each refusal that a call gives. Assumes nothing.
+-- There is one for each subject of document 01, for each of its "Tempting and wrong" but the two that stand in Starred.antt (the number stopped at the comma, and only the child's quota charged), and for each
+-- refusal that a call gives. Assumes nothing.
 use mathlib.Core.Path.{_≡_, refl}
-use mathlib.Core.Bool.{Bool, true, false}
 use mathlib.Core.List.{List, [], _∷_, _++_}
 use Prim.Native.Nat.{ℕ, zero, suc}
 use lib.ListN.{replicate}
@@ -22,7 +22,7 @@ use Rattle.rules.specs.declared.Tables.{Tables}
 use Rattle.rules.specs.Fresh.{freshDesk, freshTables, freshVolume}
 use Rattle.rules.specs.Tables.{isEntry, isPut, ownedBy, volumeOf, tokenOf, relayOf, entryOf, cleared, withClock, withVolumes, withLastVolume, withLastToken, withLastRelay, withVersion}
 use Rattle.rules.specs.Scope.{ScopeArg, scopeFits, narrows, chain, descends}
-use Rattle.rules.specs.Relays.{eligibleSet, tooFew, inOrder, ranked, taken, holdsShard, loaded, shardBytes, bytesOn, shardsOn, lightened}
+use Rattle.rules.specs.Relays.{tooFew, inOrder, ranked, taken, holdsShard, loaded, shardBytes, bytesOn, shardsOn, lightened}
 use Rattle.rules.specs.Rent.{sizesIn, effective, rentFor, rentNow}
 use Rattle.rules.specs.Sound.{soundVolume, sameName, soundPlacement, soundIn, soundEntry, sameEntry, volumeThere, parentThere, soundToken, soundRelay, soundPut, samePath, soundSession, soundVolumes, soundEntries, soundTokens, soundRelays, soundTables, sound}
 use Rattle.rules.specs.VolumeCalls.{newVolume, hasName, createIn, createRule, depositIn, depositRule, deleteIn, deleteRule, undeleteIn, undeleteRule, dropEntries, removeEntry, removeIn, removeRule}
@@ -31,7 +31,7 @@ use Rattle.rules.specs.RelayCalls.{registerIn, registerRule, heartbeatIn, heart
 use Rattle.rules.specs.Advance.{relaysLeave, afterRent, settled, settle, isDue, isOneOf, collect, atEpoch, advanced, advanceRule}
 use Rattle.rules.specs.SessionCalls.{openVolume, openToken, openRule, stagePut, stageToken, stageRule, abandonRule}
 use Rattle.rules.specs.Commit.{isReplaced, isKept, sizesAfter, isNewPath, passesQuotas, passesSize, passesRoom, belowRent, placeAll, storeNew, storeAt, storeAll, charged, committed, commitPlaced, commitLimits, commitToken, commitVolume, commitRule}
-use Rattle.rules.specs.Calls.{Ask, advance, create, deposit, delete, undelete, grant, attenuate, revoke, remove, look, register, heartbeat, askRule, Work, opens, stages, commits, abandons, workRule, Call, ask, onSlot, rule, step}
+use Rattle.rules.specs.Calls.{advance, create, deposit, delete, undelete, grant, attenuate, revoke, remove, look, register, heartbeat, askRule, opens, stages, commits, abandons, workRule, Call, ask, onSlot, rule, step}
 
 -- what a list of calls answers: the number and the value of each
 unfoldable pub told : List Call → Desk → List (ℕ × ℕ)
@@ -45,26 +45,26 @@ unfolding told
 history cs = told cs (freshDesk 100)
 
 -- names for the fields
-abbrev owner : Account
+abbrev pub owner : Account
 owner = record { 0 = replicate 32 1 }
 
 abbrev hash : Hash
 hash = record { 0 = replicate 32 7 }
 
-abbrev volume : ℕ → VolumeNo
+abbrev pub volume : ℕ → VolumeNo
 volume n = record { 0 = n }
 
-abbrev token : ℕ → TokenNo
+abbrev pub token : ℕ → TokenNo
 token n = record { 0 = n }
 
 abbrev relay : ℕ → RelayNo
 relay n = record { 0 = n }
 
 -- texts by their bytes
-abbrev a : List ℕ
+abbrev pub a : List ℕ
 a = 97 ∷ []
 
-abbrev b : List ℕ
+abbrev pub b : List ℕ
 b = 98 ∷ []
 
 abbrev job/ : List ℕ
@@ -77,11 +77,11 @@ abbrev jobs/x : List ℕ
 jobs/x = 106 ∷ 111 ∷ 98 ∷ 115 ∷ 47 ∷ 120 ∷ []
 
 -- a scope with this prefix and cap, for reading and writing, in every block up to 1,000,000
-abbrev scope : List ℕ → Cap → ScopeArg
+abbrev pub scope : List ℕ → Cap → ScopeArg
 scope prefix cap = record { prefix = prefix; mode = Both; cap = cap; «from» = 0; until = 1000000 }
 
 -- volume 1 of 2+1 shards with 1,000 coins, relays 1 to 3 of a million bytes each
-abbrev begin : List Call
+abbrev pub begin : List Call
 begin =
     ask (create owner a 2 1 Unlimited) ∷ ask (deposit (volume 1) 1000) ∷ ask (register 1000000) ∷ ask (register 1000000)
     ∷ ask (register 1000000)
@@ -91,7 +91,7 @@ abbrev begun : List (ℕ × ℕ)
 begun = (0, 1) ∷ (0, 0) ∷ (0, 1) ∷ (0, 2) ∷ (0, 3) ∷ []
 
 -- a session of one put
-abbrev put : ℕ → ℕ → List ℕ → ℕ → List Call
+abbrev pub put : ℕ → ℕ → List ℕ → ℕ → List Call
 put slot k path size =
     onSlot slot (opens (token k)) ∷ onSlot slot (stages path size hash) ∷ onSlot slot commits ∷ []
 
@@ -123,21 +123,6 @@ pub cap-zero-is-zero : history
     ≡ begun ++ ((0, 1) ∷ (0, 0) ∷ (0, 0) ∷ (10, 0) ∷ (0, 0) ∷ (0, 0) ∷ (0, 0) ∷ (0, 1) ∷ [])
 unfolding history
 cap-zero-is-zero = refl
-
--- "Only the child's quota charged." Cap 1,000 with children of 600 each: 600 by one, then 401 by the other is 10; 400 passes.
-pub family-cap : history
-    (begin
-    ++ (ask (grant owner (volume 1) (scope [] (Bytes 1000))) ∷ ask (attenuate (token 1) (scope [] (Bytes 600)))
-    ∷ ask (attenuate (token 1) (scope [] (Bytes 600)))
-    ∷ [])
-    ++ put 0 2 a 600
-    ++ put 1 3 b 401
-    ++ (onSlot 1 abandons ∷ [])
-    ++ put 1 3 b 400)
-    ≡ begun
-    ++ ((0, 1) ∷ (0, 2) ∷ (0, 3) ∷ (0, 0) ∷ (0, 0) ∷ (0, 1) ∷ (0, 0) ∷ (0, 0) ∷ (10, 0) ∷ (0, 0) ∷ (0, 0) ∷ (0, 0) ∷ (0, 2) ∷ [])
-unfolding history
-family-cap = refl
 
 -- "A token or volume number given again: an old session commits under a stranger." A revoked token's number is not given again
 pub number-not-given-again : history
