@@ -1,4 +1,5 @@
 // One part of the test broken at a time, under the words of document 01 or of the definition.
+use super::calls::show;
 use super::full;
 use amount::Cap;
 use rules::Account;
@@ -13,22 +14,7 @@ use rules::Token;
 use rules::TokenNo;
 use rules::Volume;
 use rules::VolumeNo;
-use soundness::is_sound;
 use text::Text;
-
-// Prints whether the desk is sound, and what a call on it answers: 1 before all else where it is not.
-pub(crate) fn show(part: &[u8], d: Desk) {
-    io::write_all(1, part);
-    if is_sound(d) {
-        io::write_all(1, b": sound, register answers ");
-    } else {
-        io::write_all(1, b": not sound, register answers ");
-    }
-    let o = desk::register(d, 0);
-    let a = o.answer;
-    io::print_decimal(1, a.number as u64);
-    io::write_all(1, b"\n");
-}
 
 // The desk with one part replaced: the tables, the last row of a table, or the last slot.
 fn with_tables(d: Desk, t: Tables) -> Desk {

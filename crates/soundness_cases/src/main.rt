@@ -1,10 +1,13 @@
-// A full desk that is sound, and the same desk with one part of the test broken at a time.
+// A full desk that is sound, and the same desk with one part of the test broken at a time: what each call answers, and
+// whether it gives the desk back as it went in.
+mod calls;
 mod cases;
+mod compare;
 mod full;
 
 fn main() {
     let d = full::desk();
-    cases::show(b"the full desk", d);
+    calls::show(b"the full desk", d);
     cases::counts(d);
     cases::volumes(d);
     cases::statuses(d);
