@@ -4,6 +4,7 @@ mod calls;
 mod cases;
 mod compare;
 mod full;
+mod same_rows;
 
 fn main() {
     let d = full::desk();

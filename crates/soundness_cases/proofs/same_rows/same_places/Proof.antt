@@ -1,8 +1,8 @@
 use borrow.Author.Needs.{needs}
 use native.Mathlib.Omega.{arith}
 use Prim.Native.Nat.{_-_, _≤_}
-use Rattle.soundness_cases.proofs.compare.same_places.Statement.{statement}
-use Rattle.soundness_cases.proofs.compare.same_places.Tie as tie
+use Rattle.soundness_cases.proofs.same_rows.same_places.Statement.{statement}
+use Rattle.soundness_cases.proofs.same_rows.same_places.Tie as tie
 
 abbrev Inv-loop : tie.InvT-loop
 Inv-loop a b i₀ i = i ≤ 24
