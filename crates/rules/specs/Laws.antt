@@ -36,6 +36,7 @@ pub mod OneRowLaws
 pub mod EntryLaws
 pub mod StoreLaws
 pub mod PutLaws
+pub mod AddedBytes
 pub mod ChargeLaws
 pub mod StoredSound
 pub mod CommitCases
@@ -62,6 +63,7 @@ pub mod AgainLaws
 pub mod InOrder
 pub mod InOrderLaws
 pub mod GoneLaws
+pub mod UsedLaws
 pub mod SerialLaws
 pub mod SerialCase
 pub mod Demand3

@@ -18,6 +18,7 @@ pub mod Commit
 pub mod Calls
 pub mod Coins
 pub mod Numbering
+pub mod Used
 pub mod Serial
 pub mod Laws
 pub mod Theorems

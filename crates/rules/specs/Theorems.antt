@@ -18,12 +18,14 @@ use Rattle.rules.specs.Sound.{sound}
 use Rattle.rules.specs.Calls.{Ask, delete, Call, ask, rule, step, run}
 use Rattle.rules.specs.Serial.{Demand3}
 use Rattle.rules.specs.Numbering.{NumberKind, Gives, lastOf}
+use Rattle.rules.specs.Used.{listAdds}
 use Rattle.rules.specs.Coins.{liveBalances, coinsIn, coinsPaid, coinsBack, summed}
 use Rattle.rules.specs.Laws.Demand3
 use Rattle.rules.specs.Laws.Reached
 use Rattle.rules.specs.Laws.CoinLaws
 use Rattle.rules.specs.Laws.RefusalLaws
 use Rattle.rules.specs.Laws.GoneLaws
+use Rattle.rules.specs.Laws.UsedLaws
 
 -- "A refusal gives its number, value 0, and the desk is as before, session included.": of every call that is refused, on every desk
 pub refused-unchanged : (c : Call) (d : Desk) → isAccepted (step c d .answer) ≡ false → step c d ≡ deskRefused d (step c d .answer .number)
@@ -51,6 +53,10 @@ module _ (rate : ℕ) (cs : List Call) where
   -- the desk's own sum of deposits is theirs
   pub deposits-add-up : run cs (freshDesk rate) .tables .deposits ≡ summed coinsIn cs (freshDesk rate)
   deposits-add-up = CoinLaws.deposits-summed rate cs
+
+  -- "A commit adds its staged sizes to the token and every ancestor; nothing is given back later.": a token's used bytes are the sum of these
+  pub used-adds-up : (n : TokenNo) (i : ℕ) (k : Token) → tokenOf n (run cs (freshDesk rate) .tables) ≡ hit i k → k .used ≡ listAdds n cs (freshDesk rate)
+  used-adds-up = UsedLaws.used-summed rate cs
 
 -- "Each kind counts from 1, is never given twice": an accepted call that gives a number gives the one after the last, which is then the last,
 pub number-next : (k : NumberKind) (a : Ask) → Gives k a → (d : Desk) → isAccepted (step (ask a) d .answer) ≡ true

@@ -31,7 +31,7 @@ use Rattle.rules.specs.Laws.FoundLaws.{Opens, openedBy, open-found, open
 -- A token number that was given stands for the same token, as long as it is in the table.
 
 -- a row that holds a token is in the table
-row-below : (t : Tables) (j : ℕ) → usedToken (tokenRow t j) ≡ true → j < length (t .tokens)
+pub row-below : (t : Tables) (j : ℕ) → usedToken (tokenRow t j) ≡ true → j < length (t .tokens)
 row-below t j u = go (decLt j (length (t .tokens)))
   where
     go : Dec (j < length (t .tokens)) → j < length (t .tokens)
@@ -39,7 +39,7 @@ row-below t j u = go (decLt j (length (t .tokens)))
     go (no h) = absurd (false≢true (rw (List·getD-eq-default (t .tokens) freshToken {n = j} (omega arith)) at u))
 
 -- its number was given
-row-given : (t : Tables) (i : ℕ) → Parts t → usedToken (tokenRow t i) ≡ true → tokenRow t i .no .0 ≤ t .«last_token»
+pub row-given : (t : Tables) (i : ℕ) → Parts t → usedToken (tokenRow t i) ≡ true → tokenRow t i .no .0 ≤ t .«last_token»
 row-given t i p u =
     given-le (t .«last_token») (tokenRow t i .no .0)
     (token-facts t (tokenRow t i) u (all-at (soundToken t) (t .tokens) (p .tokens) i (row-below t i u) freshToken) .numbered)
@@ -50,7 +50,7 @@ row-order t i j p h u e =
     not-both (and-both u (eq-eqb (tokenRow t j .no .0) (tokenRow t i .no .0) (ap (λ n. n .0) e)))
     (clash-at sameToken (t .tokens) (p .token-numbers) i j h (row-below t j (rw e u)) freshToken)
 
-row-once : (t : Tables) (i j : ℕ) → Parts t → usedToken (tokenRow t i) ≡ true → tokenRow t j .no ≡ tokenRow t i .no → j ≡ i
+pub row-once : (t : Tables) (i j : ℕ) → Parts t → usedToken (tokenRow t i) ≡ true → tokenRow t j .no ≡ tokenRow t i .no → j ≡ i
 row-once t i j p u e = go (ℕ-discrete j i) (decLt i j)
   where
     go : Dec (j ≡ i) → Dec (i < j) → j ≡ i

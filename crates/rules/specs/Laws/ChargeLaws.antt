@@ -26,11 +26,11 @@ use Rattle.rules.specs.Commit.{charged}
 use Rattle.rules.specs.Sound.{soundEntry, soundToken, soundRelay, volumeThere, parentThere, sameToken}
 use Rattle.rules.specs.Laws.RowFacts.{token-facts, facts-token, free-token}
 use Rattle.rules.specs.Laws.RestParts.{Rest}
-use Rattle.rules.specs.Laws.MappedLaws.{mapHit, all-mapped, find-mapped}
+use Rattle.rules.specs.Laws.MappedLaws.{mapHit, all-mapped, find-mapped, mapped-at}
 use Rattle.rules.specs.Laws.LastingLaws.{entry-same}
 use Rattle.rules.specs.Laws.Family.{FamilyInOneVolume}
 use Rattle.rules.specs.Laws.BranchLaws.{cond-case}
-use Rattle.rules.specs.Laws.TakeLaws.{map-at, any-map}
+use Rattle.rules.specs.Laws.TakeLaws.{any-map}
 use Rattle.rules.specs.Laws.ApartLaws.{one-row}
 
 -- the tokens of a chain are rows of the table
@@ -40,7 +40,7 @@ module _ (Q : Token → Type 0) (ts : List Token) (rows : (i : ℕ) → i < leng
   chain-step n rest p miss e a b = absurd (not-suc-le-zero b)
   chain-step n rest p (hit i x) e a b = rest x (rw (found-at p ts i x e freshToken) at (rows i (found-below p ts i x e))) a b
 
-  chain-rows : (n : ℕ) (k : Token) → Q k → (a : ℕ) → a < length (chain n ts k) → Q (getD (chain n ts k) a freshToken)
+  pub chain-rows : (n : ℕ) (k : Token) → Q k → (a : ℕ) → a < length (chain n ts k) → Q (getD (chain n ts k) a freshToken)
   unfolding chain
   chain-rows zero k q a b = absurd (not-suc-le-zero b)
   chain-rows (suc n) k q zero b = q
@@ -133,7 +133,7 @@ module _ (g : Token → Token) (keeps : (k : Token) → withUsed (g k) 0 ≡ wit
   family-kept f j b w i k e =
       let c : j < length (t .tokens) = rw (length-map (t .tokens) g) at b in
       let x = getD (t .tokens) j freshToken in
-      let q : getD (map g (t .tokens)) j freshToken ≡ g x = map-at g (t .tokens) j freshToken freshToken c in
+      let q : getD (map g (t .tokens)) j freshToken ≡ g x = mapped-at g (t .tokens) j freshToken freshToken c in
       let u : usedToken x ≡ true = rw (q, keeps-no g keeps x) at w in
       let p = hit-kept (find (isToken (x .parent)) (t .tokens)) i k (sym (found-kept g keeps (t .tokens) (x .parent)) ∙ rw (q, keeps-parent g keeps x) at e) in
       rw q

@@ -40,9 +40,9 @@ use Rattle.rules.specs.Laws.OnceRows.{none-back}
 use Rattle.rules.specs.Laws.OnceLaws.{NumbersOnce, numbers-refl, numbers-on, ask-once, work-once}
 
 -- what is said of the three kinds after some calls
-record Onward (t u : Tables) : Type 0 where
-  tokens : Later t u
-  others : NumbersOnce t u
+pub record Onward (t u : Tables) : Type 0 where
+  pub tokens : Later t u
+  pub others : NumbersOnce t u
 
 onward-refl : (t : Tables) → Onward t t
 onward-refl t = record { tokens = later-refl t; others = numbers-refl t }
@@ -61,7 +61,7 @@ rule-onward (onSlot slot w) d =
     cond-case (λ (o : Outcome). Onward (d .tables) (o .desk .tables)) (leb slotRows slot) (deskRefused d BAD) _ (λ b. onward-refl (d .tables))
     (λ b. record { tokens = work-does w (d .tables) s .later; others = work-once w (d .tables) s })
 
-call-onward : (c : Call) (d : Desk) → Onward (d .tables) (step c d .desk .tables)
+pub call-onward : (c : Call) (d : Desk) → Onward (d .tables) (step c d .desk .tables)
 unfolding step
 call-onward c d =
     cond-case (λ (o : Outcome). Onward (d .tables) (o .desk .tables)) (sound d) (rule c d) (deskRefused d BAD) (λ b. rule-onward c d) (λ b. onward-refl (d .tables))

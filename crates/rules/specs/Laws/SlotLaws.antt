@@ -82,7 +82,7 @@ busy-tidy : (s : Session) → busy s ≡ true → Tidy s
 busy-tidy s g b = absurd (true≢false (sym g ∙ b))
 
 -- a commit changes no token but in its used bytes
-charged-same : (ks : List Token) (bytes : ℕ) (k : Token) → SameToken k (charged ks bytes k)
+pub charged-same : (ks : List Token) (bytes : ℕ) (k : Token) → SameToken k (charged ks bytes k)
 unfolding charged
 charged-same ks bytes k = cond-case (SameToken k) (anyOf (isToken (k .no)) ks) _ k (λ b. record { no = refl; volume = refl; scope = refl }) (λ b. same-token k)
 

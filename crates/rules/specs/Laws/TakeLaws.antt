@@ -2,10 +2,9 @@
 use mathlib.Core.Path.{_≡_, refl, ap, sym, _∙_}
 use mathlib.Core.Bool.{Bool, true, false, _&&_, _||_}
 use mathlib.Core.List.{List, [], _∷_, map}
-use Prim.Native.Nat.{ℕ, zero, suc, _<_, min}
-use native.Mathlib.Nat.{le-of-suc-le-suc, not-suc-le-zero}
+use Prim.Native.Nat.{ℕ, _<_, min}
 use native.Mathlib.Omega.{arith}
-use lib.ListN.{length, take, drop, getD, length-take, take-append-drop}
+use lib.ListN.{length, take, drop, length-take, take-append-drop}
 use lib.Seq.{getD-take}
 use Rattle.lists.specs.Lists.{allOf, anyOf, noClash}
 use Rattle.lists.specs.BoolLaws.{and-left}
@@ -26,12 +25,7 @@ module _ {A : Type 0} (n : ℕ) (l : List A) where
       let m : j < min n (length l) = rw (length-take n l) at k in
       rw (getD-take n l i d (omega arith), getD-take n l j d (omega arith)) (clash-at clash l e i j h (omega arith) d))
 
--- a table that was mapped: its row at an index, and what a test says of its rows
-pub map-at : {A B : Type 0} (f : A → B) (l : List A) (j : ℕ) (d : A) (c : B) → j < length l → getD (map f l) j c ≡ f (getD l j d)
-map-at f [] j d c h = absurd (not-suc-le-zero h)
-map-at f (x ∷ xs) zero d c h = refl
-map-at f (x ∷ xs) (suc j) d c h = map-at f xs j d c (le-of-suc-le-suc h)
-
+-- a table that was mapped: what a test says of its rows
 module _ {A B : Type 0} (f : A → B) (p : B → Bool) (q : A → Bool) (l : List A) (e : (x : A) → p (f x) ≡ q x) where
   pub all-map : allOf p (map f l) ≡ allOf q l
   all-map = all-same p q (map f l) l (map-after p f q l e)
