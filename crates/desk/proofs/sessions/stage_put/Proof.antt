@@ -1,3 +1,4 @@
+use Rattle.rules.specs.Limits.{putRows}
 use Rattle.rules.specs.SessionCalls.{stagePut}
 use Rattle.desk.proofs.FindLaws.{found-in, found-row, found-none}
 use Rattle.rules.specs.Tables.{isPut, staged}
@@ -25,7 +26,7 @@ refuse-slot-requires c κs = search needs
 
 returns : tie.Need-returns
 unfolding stagePut
-returns c = rw (found-none (isPut (c .before .before .before .before .before .before .before .args .path .now)) (staged (c .before .before .before .before .before .before .before .args .s)) (c .before .before .before .before .find-put .ensures) (c .before .before .enum-told .given .1), le-leb _ _ (c .before .if1 .taken)) (c .refuse-slot .ensures)
+returns c = rw (found-none (isPut (c .before .before .before .before .before .before .before .args .path .now)) (staged (c .before .before .before .before .before .before .before .args .s)) (c .before .before .before .before .find-put .ensures) (c .before .before .enum-told .given .1), le-leb putRows _ (c .before .if1 .taken)) (c .refuse-slot .ensures)
 
 with-put-requires : tie.Need-with-put-requires
 with-put-requires c κs = search needs
@@ -38,7 +39,7 @@ accept-slot-requires c κs = search needs
 
 returns-2 : tie.Need-returns-2
 unfolding stagePut
-returns-2 c = rw (found-none (isPut (c .before .before .before .before .before .before .before .before .args .path .now)) (staged (c .before .before .before .before .before .before .before .before .args .s)) (c .before .before .before .before .before .find-put .ensures) (c .before .before .before .enum-told .given .1), lt-leb _ _ (c .before .before .if1 .left)) (c .accept-slot .ensures ∙ rw (c .before .with-put .ensures))
+returns-2 c = rw (found-none (isPut (c .before .before .before .before .before .before .before .before .args .path .now)) (staged (c .before .before .before .before .before .before .before .before .args .s)) (c .before .before .before .before .before .find-put .ensures) (c .before .before .before .enum-told .given .1), lt-leb putRows _ (c .before .before .if1 .left)) (c .accept-slot .ensures ∙ rw (c .before .with-put .ensures))
 
 with-put-requires-2 : tie.Need-with-put-requires-2
 with-put-requires-2 c κs =

@@ -1,3 +1,5 @@
+use mathlib.Core.Path.{_≡_}
+use Rattle.rules.specs.Scope.{inWindow}
 use Rattle.rules.specs.TokenCalls.{lookIn, lookEntry}
 use Rattle.desk.proofs.FindLaws.{found-in, found-row, found-none}
 use Rattle.rules.specs.Tables.{isEntry, entryOf}
@@ -17,7 +19,10 @@ refuse-requires c κs = search needs
 
 returns : tie.Need-returns
 unfolding lookIn
-returns c = rw (← c .before .before .in-window .ensures, c .before .if1 .taken) (c .refuse .ensures)
+returns c =
+    let z = c .before .before .before .before .before .before .before .args in
+    let h : c .before .before .in-window .result ≡ inWindow (z .t .clock) (z .k .scope) = c .before .before .in-window .ensures in
+    rw (← h, c .before .if1 .taken) (c .refuse .ensures)
 
 can-read-requires : tie.Need-can-read-requires
 can-read-requires c κs = search needs
