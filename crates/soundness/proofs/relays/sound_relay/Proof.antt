@@ -29,7 +29,7 @@ returns-5 c = λ t e f g h. rw (ne-eqb _ _ (c .before .before .before .before .b
 
 returns-6 : tie.Need-returns-6
 unfolding soundRelay
-returns-6 c = λ t e f g h. rw (ne-eqb _ _ (c .before .before .before .before .before .before .before .before .before .before .if1 .left), e, ← c .before .before .before .before .before .before .before .before .before .is-given .ensures, not-false (c .before .before .before .before .before .before .before .before .before .is-given .result) (c .before .before .before .before .before .before .before .before .if2 .left), le-leb _ _ (c .before .before .before .before .before .before .if3 .left), le-leb _ _ (c .before .before .before .before .if4 .left), f, le-leb _ _ (c .before .before .if5 .left), ← g, ne-eqb _ _ (c .if6 .taken))
+returns-6 c = λ t e f g h. rw (ne-eqb _ _ (c .before .before .before .before .before .before .before .before .before .before .if1 .left), e, ← c .before .before .before .before .before .before .before .before .before .is-given .ensures, not-false (c .before .before .before .before .before .before .before .before .before .is-given .result) (c .before .before .before .before .before .before .before .before .if2 .left), le-leb _ _ (c .before .before .before .before .before .before .if3 .left), le-leb _ _ (c .before .before .before .before .if4 .left), f, le-leb _ _ (c .before .before .if5 .left), ← g, ne-eqb _ (c .before .before .before .before .before .before .before .before .before .before .before .before .args .bytes) (c .if6 .taken))
 
 returns-7 : tie.Need-returns-7
 unfolding soundRelay

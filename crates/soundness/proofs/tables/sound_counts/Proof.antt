@@ -1,9 +1,10 @@
 use borrow.Author.Tests.{le-leb, lt-leb}
+use Rattle.rules.specs.Limits.{clockLimit}
 use Rattle.soundness.proofs.tables.sound_counts.Statement.{statement}
 use Rattle.soundness.proofs.tables.sound_counts.Tie as tie
 
 returns : tie.Need-returns
-returns c = rw (lt-leb _ _ (c .if1 .taken))
+returns c = rw (lt-leb _ clockLimit (c .if1 .taken))
 
 returns-2 : tie.Need-returns-2
 returns-2 c = rw (le-leb _ _ (c .before .before .if1 .left), lt-leb _ _ (c .if2 .taken))
