@@ -4,7 +4,7 @@ use mathlib.Core.Bool.{Bool, true, false, _&&_, cond}
 use mathlib.Core.List.{List, [], _∷_, map}
 use mathlib.Core.Option.{Option, none, some}
 use mathlib.Core.Logic.{_⊎_, inl, inr, ⊎-elim}
-use Prim.Native.Nat.{ℕ, zero, suc, _+_, _-_, _<_, _≤_}
+use Prim.Native.Nat.{ℕ, zero, suc, _+_, _<_, _≤_}
 use native.Mathlib.Nat.{add-zero, add-suc, suc-add}
 use native.Mathlib.Omega.{arith}
 use lib.Dec.{eqb}
@@ -15,7 +15,7 @@ use Rattle.journal.specs.declared.Kind.the-variants.{Advance, Create, De
 use Rattle.journal.specs.declared.Field.{Field}
 use Rattle.journal.specs.NumberLaws.{and-left, and-right}
 use Rattle.journal.specs.Records.{v01, fieldsOf, kindNumber, kinds, kindAmong}
-use Rattle.journal.specs.Table.{padded}
+use Rattle.journal.specs.Table.{kindPlace, padded}
 
 -- the kinds are numbered one after another from i
 abbrev pub numberedFrom : ℕ → List Kind → Bool
@@ -49,7 +49,7 @@ no-kind i n (k ∷ ks) t h =
 abbrev pub rows : List (List Field)
 rows = map (λ k. padded (fieldsOf v01 k)) (kinds v01)
 
-row : (k : Kind) → getD rows (kindNumber k - 1) [] ≡ padded (fieldsOf v01 k)
+row : (k : Kind) → getD rows (kindPlace k) [] ≡ padded (fieldsOf v01 k)
 row Advance = refl
 row Create = refl
 row Deposit = refl
@@ -67,7 +67,5 @@ row Look = refl
 row Register = refl
 row Heartbeat = refl
 
-pub row-at : (k : Kind) (i : ℕ) → i + 1 ≡ kindNumber k → getD rows i [] ≡ padded (fieldsOf v01 k)
-row-at k i e =
-    let p : i ≡ kindNumber k - 1 = omega arith in
-    ap (λ (j : ℕ). getD rows j []) p ∙ row k
+pub row-at : (k : Kind) (i : ℕ) → i ≡ kindPlace k → getD rows i [] ≡ padded (fieldsOf v01 k)
+row-at k i e = ap (λ (j : ℕ). getD rows j []) e ∙ row k

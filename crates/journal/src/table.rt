@@ -1,9 +1,9 @@
 // The table of document 01's calls: each kind's number and its list of fields.
 ghost use mathlib.Core.Path.{_≡_};
-ghost use Prim.Native.Nat.{_+_, _<_, _≤_};
+ghost use Prim.Native.Nat.{_<_, _≤_};
 ghost use lib.ListN.{length};
-ghost use Rattle.journal.specs.Records.{v01, fieldsOf, kindNumber};
-ghost use Rattle.journal.specs.Table.{named, padded};
+ghost use Rattle.journal.specs.Records.{v01, fieldsOf};
+ghost use Rattle.journal.specs.Table.{kindPlace, named, padded};
 use super::Field;
 use super::Field as F;
 use super::Kind;
@@ -68,8 +68,8 @@ pub fn field_count(kind: Kind) -> usize
 }
 
 // A kind's place in the tables, from 0.
-pub fn kind_place(kind: Kind) -> usize
-    ensures { λ r. ⌜ (r + 1 ≡ kindNumber kind) × (r < 16) ⌝ }
+fn kind_place(kind: Kind) -> usize
+    ensures { λ r. ⌜ (r ≡ kindPlace kind) × (r < 16) ⌝ }
 {
     match kind {
         Kind::Advance => 0,

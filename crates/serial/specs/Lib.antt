@@ -1,6 +1,6 @@
 pub mod Second
 pub mod Example
-pub mod Place
+pub mod SecondLaws
 pub mod Laws
 pub mod Replay
 pub mod Local

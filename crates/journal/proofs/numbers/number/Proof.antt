@@ -22,7 +22,6 @@ Inv-loop part n₀ i₀ n i = (length part ≤ 8) × (i ≤ length part) × (n �
 abbrev μ-loop : tie.MeasureT-loop
 μ-loop part n₀ i₀ n i = length part - i
 
--- src/numbers.rt:22:5
 loop-holds : tie.Need-loop-holds Inv-loop μ-loop
 unfolding numberOf
 loop-holds c = (c .before .pre, omega arith, refl)
@@ -35,34 +34,27 @@ room c =
     let b : areBytes l ≡ true = bytes-known l (λ k. c .before .before .shared-slice-known .given k .fits) in
     rw (c .before .loop .inv .2) (number-part-fits l i b (c .loop-test .taken) (c .before .loop .inv .0))
 
--- src/numbers.rt:23:13
 mul-n : tie.Need-mul-n Inv-loop μ-loop
 mul-n c = omega (arith, room c)
 
--- src/numbers.rt:23:28
 shared-slice-read-wide : tie.Need-shared-slice-read-wide Inv-loop μ-loop
 shared-slice-read-wide c = omega arith
 
--- src/numbers.rt:23:23
 wide-requires : tie.Need-wide-requires Inv-loop μ-loop
 wide-requires c κs = tt
 
--- src/numbers.rt:23:13
 add-n : tie.Need-add-n Inv-loop μ-loop
 add-n c =
     let l = c .before .before .before .before .before .args .part .now in
     let b : c .wide .result ≡ getD l (c .before .before .before .loop .i) 0 = c .wide .ensures in
     omega (arith, room (c .before .before), c .before .shared-slice-known2 .given (c .before .before .before .loop .i))
 
--- src/numbers.rt:24:9
 add-i : tie.Need-add-i Inv-loop μ-loop
 add-i c = omega arith
 
--- src/numbers.rt:22:5
 loop-less : tie.Need-loop-less Inv-loop μ-loop
 loop-less c = omega arith
 
--- src/numbers.rt:22:5
 loop-again : tie.Need-loop-again Inv-loop μ-loop
 loop-again c =
     let l = c .before .before .before .before .before .args .part .now in
@@ -70,7 +62,6 @@ loop-again c =
     let h = c .before .before .before .loop .inv in
     (h .0, omega arith, rw (add-one i, number-more l i (c .before .before .loop-test .taken), ← h .2, c .wide .ensures))
 
--- src/numbers.rt:16:1
 returns : tie.Need-returns Inv-loop μ-loop
 returns c =
     let l = c .before .before .before .args .part .now in

@@ -14,11 +14,9 @@ use Rattle.journal.proofs.numbers.number_at.Reads as reads
 use Rattle.journal.proofs.numbers.number_at.Lts as lts
 use Rattle.journal.proofs.numbers.number.Reads as number-reads
 
--- src/numbers.rt:34:8
 sub-if1 : tie.Need-sub-if1
 sub-if1 c = search needs
 
--- src/numbers.rt:35:9
 returns : tie.Need-returns
 unfolding numberAt
 returns c =
@@ -27,27 +25,21 @@ returns c =
     let h : length (drop (a .at) l) < a .w = omega (arith, length-drop (a .at) l) in
     sym (ap asAnswer (part-cut (a .w) (drop (a .at) l) h))
 
--- src/numbers.rt:37:15
 add-end : tie.Need-add-end
 add-end c = search needs
 
--- src/numbers.rt:38:26
 sub-number : tie.Need-sub-number
 sub-number c = search needs
 
--- src/numbers.rt:38:26
 part-number-start : tie.Need-part-number-start
 part-number-start c = search needs
 
--- src/numbers.rt:38:26
 part-number-end : tie.Need-part-number-end
 part-number-end c = search needs
 
--- src/numbers.rt:38:19
 number-requires : tie.Need-number-requires
 number-requires c κs = search needs
 
--- src/numbers.rt:30:1
 returns-2 : tie.Need-returns-2
 unfolding numberAt
 returns-2 c =

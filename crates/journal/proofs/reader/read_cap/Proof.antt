@@ -68,7 +68,8 @@ returns-3 c =
     let l = drop (a .at) (a .body .now) in
     let k : decodeNumber 8 (drop 1 l) ≡ nothing =
     ap (decodeNumber 8) (drop-drop 1 (a .at) (a .body .now)) ∙ not-there 8 (drop (a .at + 1) (a .body .now)) (sym (c .enum-told2 .given .1) ∙ c .before .before .number-at2 .ensures) in
-    let d : decode cap l ≡ nothing = cap-at l _ (valued 1 l (c .before .before .before .before .before .before .tag .given .0 .0) (sym (c .before .before .before .before .before .before .tag .given .1) ∙ c .before .before .before .before .before .before .before .before .number-at .ensures)) ∙ rw (ne-eqb _ _ (c .before .before .before .before .if1 .left), eq-eqb _ _ (c .before .before .before .if2 .taken), k) in
+    let one : c .before .before .before .before .before .before .tag .given .0 .0 ≡ 1 = omega arith in
+    let d : decode cap l ≡ nothing = cap-at l _ (valued 1 l (c .before .before .before .before .before .before .tag .given .0 .0) (sym (c .before .before .before .before .before .before .tag .given .1) ∙ c .before .before .before .before .before .before .before .before .number-at .ensures)) ∙ rw (ne-eqb _ _ (c .before .before .before .before .if1 .left), eq-eqb _ _ one, k) in
     step-nothing its.Cap (a .at) (a .r) l d
 
 with-cap-requires-2 : tie.Need-with-cap-requires-2

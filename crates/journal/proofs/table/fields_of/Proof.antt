@@ -12,19 +12,15 @@ use Rattle.journal.proofs.table.fields_of.Reads as reads
 use Rattle.journal.proofs.table.fields_of.Lts as lts
 use Rattle.journal.proofs.table.kind_place.Reads as kind-place-reads
 
--- src/table.rt:117:9
 kind-place-requires : tie.Need-kind-place-requires
 kind-place-requires c κs = search needs
 
--- src/table.rt:118:5
 mul-result : tie.Need-mul-result
 mul-result c = omega (arith, c .kind-place .ensures .1)
 
--- src/table.rt:118:5
 array-copy-out-result : tie.Need-array-copy-out-result
 array-copy-out-result c = c .kind-place .ensures .1
 
--- src/table.rt:114:1
 returns : tie.Need-returns
 returns c = row-at (c .before .before .args .kind) (c .before .kind-place .result) (c .before .kind-place .ensures .0)
 

@@ -14,25 +14,20 @@ use Rattle.journal.proofs.table.kind_named.Tie as tie
 use Rattle.journal.proofs.table.kind_named.Reads as reads
 use Rattle.journal.proofs.table.kind_named.Lts as lts
 
--- src/table.rt:36:9
 returns : tie.Need-returns
 unfolding named
 returns c = sym (ap namedBy (no-kind 1 (c .before .args .n) (kinds v01) refl (inl (c .if1 .taken))))
 
--- src/table.rt:39:9
 returns-2 : tie.Need-returns-2
 unfolding named
 returns-2 c = sym (ap namedBy (no-kind 1 (c .before .before .args .n) (kinds v01) refl (inr (c .if2 .taken))))
 
--- src/table.rt:41:13
 cast-i : tie.Need-cast-i
 cast-i c = search needs
 
--- src/table.rt:42:17
 array-copy-out-t24 : tie.Need-array-copy-out-t24
 array-copy-out-t24 c = search needs
 
--- src/table.rt:32:1
 returns-3 : tie.Need-returns-3
 unfolding named
 returns-3 c =

@@ -1,4 +1,5 @@
-use Rattle.rules.specs.Tables.{isEntry}
+use mathlib.Core.Path.{_≡_}
+use Rattle.rules.specs.Tables.{inVolume, isEntry}
 use borrow.Author.Tests.{not-true, not-false}
 use borrow.Author.Needs.{needs}
 use Rattle.rows.proofs.texts.is_entry.Statement.{statement}
@@ -9,7 +10,10 @@ is-number-requires c κs = search needs
 
 returns : tie.Need-returns
 unfolding isEntry
-returns c = rw (← c .before .is-number .ensures, not-true (c .before .is-number .result) (c .if1 .taken))
+returns c =
+    let d = c .before in
+    let h : d .is-number .result ≡ inVolume (d .before .before .args .n) (d .before .before .args .e) = d .is-number .ensures in
+    rw (← h, not-true (d .is-number .result) (c .if1 .taken))
 
 same-text-requires : tie.Need-same-text-requires
 same-text-requires c κs = search needs

@@ -1,5 +1,6 @@
 use borrow.Author.Needs.{needs}
 use borrow.Author.Tests.{eq-eqb, ne-eqb, le-leb, lt-leb, not-true, not-false}
+use native.Mathlib.Omega.{arith}
 use Rattle.rules.specs.Sound.{soundRelay}
 use Rattle.soundness.proofs.relays.sound_relay.Statement.{statement}
 use Rattle.soundness.proofs.relays.sound_relay.Tie as tie
@@ -29,11 +30,13 @@ returns-5 c = λ t e f g h. rw (ne-eqb _ _ (c .before .before .before .before .b
 
 returns-6 : tie.Need-returns-6
 unfolding soundRelay
-returns-6 c = λ t e f g h. rw (ne-eqb _ _ (c .before .before .before .before .before .before .before .before .before .before .if1 .left), e, ← c .before .before .before .before .before .before .before .before .before .is-given .ensures, not-false (c .before .before .before .before .before .before .before .before .before .is-given .result) (c .before .before .before .before .before .before .before .before .if2 .left), le-leb _ _ (c .before .before .before .before .before .before .if3 .left), le-leb _ _ (c .before .before .before .before .if4 .left), f, le-leb _ _ (c .before .before .if5 .left), ← g, ne-eqb _ _ (c .if6 .taken))
+returns-6 c =
+    let a = c .before .before .before .before .before .before .before .before .before .before .before .before .args in
+    λ t e f g h. rw (ne-eqb _ _ (c .before .before .before .before .before .before .before .before .before .before .if1 .left), e, ← c .before .before .before .before .before .before .before .before .before .is-given .ensures, not-false (c .before .before .before .before .before .before .before .before .before .is-given .result) (c .before .before .before .before .before .before .before .before .if2 .left), le-leb _ _ (c .before .before .before .before .before .before .if3 .left), le-leb _ _ (c .before .before .before .before .if4 .left), f, le-leb _ _ (c .before .before .if5 .left), ← g, ne-eqb (a .x .used) (a .bytes) (λ q. omega (arith, c .if6 .taken)))
 
 returns-7 : tie.Need-returns-7
 unfolding soundRelay
-returns-7 c = λ t e f g h. rw (ne-eqb _ _ (c .before .before .before .before .before .before .before .before .before .before .before .if1 .left), e, ← c .before .before .before .before .before .before .before .before .before .before .is-given .ensures, not-false (c .before .before .before .before .before .before .before .before .before .before .is-given .result) (c .before .before .before .before .before .before .before .before .before .if2 .left), le-leb _ _ (c .before .before .before .before .before .before .before .if3 .left), le-leb _ _ (c .before .before .before .before .before .if4 .left), f, le-leb _ _ (c .before .before .before .if5 .left), ← g, eq-eqb _ _ (c .before .if6 .left), ← h)
+returns-7 c = λ t e f g h. rw (ne-eqb _ _ (c .before .before .before .before .before .before .before .before .before .before .before .if1 .left), e, ← c .before .before .before .before .before .before .before .before .before .before .is-given .ensures, not-false (c .before .before .before .before .before .before .before .before .before .before .is-given .result) (c .before .before .before .before .before .before .before .before .before .if2 .left), le-leb _ _ (c .before .before .before .before .before .before .before .if3 .left), le-leb _ _ (c .before .before .before .before .before .if4 .left), f, le-leb _ _ (c .before .before .before .if5 .left), ← g, eq-eqb _ (c .before .before .before .before .before .before .before .before .before .before .before .before .before .args .bytes) (c .before .if6 .left), ← h)
 
 pub sound-relay-spec : {M : Type 1} → statement M
 sound-relay-spec =

@@ -1,5 +1,7 @@
 use borrow.Author.Needs.{needs}
 use borrow.Author.Tests.{eq-eqb, ne-eqb, le-leb, lt-leb, not-true, not-false}
+use native.Mathlib.Omega.{arith}
+use Rattle.rules.specs.Limits.{deepest}
 use Rattle.rules.specs.Sound.{volumeThere, parentThere, soundToken}
 use Rattle.soundness.proofs.tokens.sound_token.Statement.{statement}
 use Rattle.soundness.proofs.tokens.sound_token.Tie as tie
@@ -52,11 +54,11 @@ depth-of-requires c κs = search needs
 
 returns-8 : tie.Need-returns-8
 unfolding soundToken volumeThere parentThere
-returns-8 c = λ t e f g. rw (ne-eqb _ _ (c .before .before .before .before .before .before .before .before .before .before .before .before .before .before .before .before .before .if1 .left), g, ← c .before .before .before .before .before .before .before .before .before .before .before .before .before .before .before .before .is-given .ensures, not-false (c .before .before .before .before .before .before .before .before .before .before .before .before .before .before .before .before .is-given .result) (c .before .before .before .before .before .before .before .before .before .before .before .before .before .before .before .if2 .left), ← c .before .before .before .before .before .before .before .before .before .before .before .before .holds-prefix .ensures, not-false (c .before .before .before .before .before .before .before .before .before .before .before .before .holds-prefix .result) (c .before .before .before .before .before .before .before .before .before .before .before .if3 .left), ← c .before .before .before .before .before .before .before .before .before .before .cap-fits .ensures, not-false (c .before .before .before .before .before .before .before .before .before .before .cap-fits .result) (c .before .before .before .before .before .before .before .before .before .if4 .left), le-leb _ _ (c .before .before .before .before .before .before .before .if5 .left), e, ← c .before .before .before .before .before .any-volume .ensures, not-false (c .before .before .before .before .before .any-volume .result) (c .before .before .before .before .if6 .left), ← c .before .before .before .parent-there .ensures t f, not-false (c .before .before .before .parent-there .result) (c .before .before .if7 .left), f, ← c .before .depth-of .ensures, lt-leb _ _ (c .if8 .taken))
+returns-8 c = λ t e f g. rw (ne-eqb _ _ (c .before .before .before .before .before .before .before .before .before .before .before .before .before .before .before .before .before .if1 .left), g, ← c .before .before .before .before .before .before .before .before .before .before .before .before .before .before .before .before .is-given .ensures, not-false (c .before .before .before .before .before .before .before .before .before .before .before .before .before .before .before .before .is-given .result) (c .before .before .before .before .before .before .before .before .before .before .before .before .before .before .before .if2 .left), ← c .before .before .before .before .before .before .before .before .before .before .before .before .holds-prefix .ensures, not-false (c .before .before .before .before .before .before .before .before .before .before .before .before .holds-prefix .result) (c .before .before .before .before .before .before .before .before .before .before .before .if3 .left), ← c .before .before .before .before .before .before .before .before .before .before .cap-fits .ensures, not-false (c .before .before .before .before .before .before .before .before .before .before .cap-fits .result) (c .before .before .before .before .before .before .before .before .before .if4 .left), le-leb _ _ (c .before .before .before .before .before .before .before .if5 .left), e, ← c .before .before .before .before .before .any-volume .ensures, not-false (c .before .before .before .before .before .any-volume .result) (c .before .before .before .before .if6 .left), ← c .before .before .before .parent-there .ensures t f, not-false (c .before .before .before .parent-there .result) (c .before .before .if7 .left), f, ← c .before .depth-of .ensures, lt-leb (c .before .depth-of .result) deepest (omega (arith, c .if8 .taken)))
 
 returns-9 : tie.Need-returns-9
 unfolding soundToken volumeThere parentThere
-returns-9 c = λ t e f g. rw (ne-eqb _ _ (c .before .before .before .before .before .before .before .before .before .before .before .before .before .before .before .before .before .before .if1 .left), g, ← c .before .before .before .before .before .before .before .before .before .before .before .before .before .before .before .before .before .is-given .ensures, not-false (c .before .before .before .before .before .before .before .before .before .before .before .before .before .before .before .before .before .is-given .result) (c .before .before .before .before .before .before .before .before .before .before .before .before .before .before .before .before .if2 .left), ← c .before .before .before .before .before .before .before .before .before .before .before .before .before .holds-prefix .ensures, not-false (c .before .before .before .before .before .before .before .before .before .before .before .before .before .holds-prefix .result) (c .before .before .before .before .before .before .before .before .before .before .before .before .if3 .left), ← c .before .before .before .before .before .before .before .before .before .before .before .cap-fits .ensures, not-false (c .before .before .before .before .before .before .before .before .before .before .before .cap-fits .result) (c .before .before .before .before .before .before .before .before .before .before .if4 .left), le-leb _ _ (c .before .before .before .before .before .before .before .before .if5 .left), e, ← c .before .before .before .before .before .before .any-volume .ensures, not-false (c .before .before .before .before .before .before .any-volume .result) (c .before .before .before .before .before .if6 .left), ← c .before .before .before .before .parent-there .ensures t f, not-false (c .before .before .before .before .parent-there .result) (c .before .before .before .if7 .left), f, ← c .before .before .depth-of .ensures, le-leb _ _ (c .before .if8 .left))
+returns-9 c = λ t e f g. rw (ne-eqb _ _ (c .before .before .before .before .before .before .before .before .before .before .before .before .before .before .before .before .before .before .if1 .left), g, ← c .before .before .before .before .before .before .before .before .before .before .before .before .before .before .before .before .before .is-given .ensures, not-false (c .before .before .before .before .before .before .before .before .before .before .before .before .before .before .before .before .before .is-given .result) (c .before .before .before .before .before .before .before .before .before .before .before .before .before .before .before .before .if2 .left), ← c .before .before .before .before .before .before .before .before .before .before .before .before .before .holds-prefix .ensures, not-false (c .before .before .before .before .before .before .before .before .before .before .before .before .before .holds-prefix .result) (c .before .before .before .before .before .before .before .before .before .before .before .before .if3 .left), ← c .before .before .before .before .before .before .before .before .before .before .before .cap-fits .ensures, not-false (c .before .before .before .before .before .before .before .before .before .before .before .cap-fits .result) (c .before .before .before .before .before .before .before .before .before .before .if4 .left), le-leb _ _ (c .before .before .before .before .before .before .before .before .if5 .left), e, ← c .before .before .before .before .before .before .any-volume .ensures, not-false (c .before .before .before .before .before .before .any-volume .result) (c .before .before .before .before .before .if6 .left), ← c .before .before .before .before .parent-there .ensures t f, not-false (c .before .before .before .before .parent-there .result) (c .before .before .before .if7 .left), f, ← c .before .before .depth-of .ensures, le-leb _ deepest (c .before .if8 .left))
 
 pub sound-token-spec : {M : Type 1} → statement M
 sound-token-spec =

@@ -1,3 +1,4 @@
+use mathlib.Core.Path.{_≡_}
 use borrow.Author.Needs.{needs}
 use borrow.Author.Tests.{lt-ltb, le-ltb, not-true, not-false}
 use native.Mathlib.Omega.{arith}
@@ -19,7 +20,11 @@ owned-by-requires c κs = search needs
 
 returns-3 : tie.Need-returns-3
 unfolding sameName ownedBy
-returns-3 c = rw (lt-ltb 0 (c .before .before .before .before .before .before .before .args .a .no .0) (omega arith), lt-ltb 0 (c .before .before .before .before .before .before .before .args .b .no .0) (omega arith), ← c .before .owned-by .ensures, not-true (c .before .owned-by .result) (c .if3 .taken))
+returns-3 c =
+    let d = c .before in
+    let a = d .before .before .before .before .before .before .args in
+    let h : d .owned-by .result ≡ ownedBy (a .b .owner) (a .a) = d .owned-by .ensures in
+    rw (lt-ltb 0 (a .a .no .0) (omega arith), lt-ltb 0 (a .b .no .0) (omega arith), ← h, not-true (d .owned-by .result) (c .if3 .taken))
 
 same-texts-requires : tie.Need-same-texts-requires
 same-texts-requires c κs = search needs

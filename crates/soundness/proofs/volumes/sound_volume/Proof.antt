@@ -6,7 +6,7 @@ use Rattle.soundness.proofs.volumes.sound_volume.Tie as tie
 
 returns : tie.Need-returns
 unfolding soundVolume
-returns c = λ t e f. rw (eq-eqb _ _ (c .if1 .taken))
+returns c = λ t e f. rw (eq-eqb _ 0 (c .if1 .taken))
 
 is-given-requires : tie.Need-is-given-requires
 is-given-requires c κs = search needs

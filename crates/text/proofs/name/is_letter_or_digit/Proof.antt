@@ -1,5 +1,7 @@
 -- `name::is_letter_or_digit` meets its contract: each test that led to a return is one of the rule's. Assumes nothing.
+use mathlib.Core.Path.{_≡_}
 use borrow.Author.Needs.{needs}
+use Rattle.text.specs.Text.{within}
 use Rattle.text.proofs.name.is_letter_or_digit.Statement.{statement}
 use Rattle.text.proofs.name.is_letter_or_digit.Tie as tie
 
@@ -7,7 +9,9 @@ within-requires : tie.Need-within-requires
 within-requires c κs = search needs
 
 returns : tie.Need-returns
-returns c = rw (← c .before .within .ensures, c .if1 .taken)
+returns c =
+    let h : c .before .within .result ≡ within 97 122 (c .before .before .args .b) = c .before .within .ensures in
+    rw (← h, c .if1 .taken)
 
 within-requires-2 : tie.Need-within-requires-2
 within-requires-2 c κs = search needs

@@ -1,6 +1,6 @@
 -- `path::is_path` meets its contract: each test that led to a return is one of the rule's. Assumes nothing.
 use borrow.Author.Tests.{lt-leb, le-leb, not-true, not-false}
-use Rattle.text.specs.Text.{isPath}
+use Rattle.text.specs.Text.{pathLimit, isPath}
 use borrow.Author.Needs.{needs}
 use Rattle.text.proofs.path.is_path.Statement.{statement}
 use Rattle.text.proofs.path.is_path.Tie as tie
@@ -11,7 +11,7 @@ returns c = rw (lt-leb _ _ (c .if1 .taken))
 
 returns-2 : tie.Need-returns-2
 unfolding isPath
-returns-2 c = rw (le-leb _ _ (c .before .if1 .left), lt-leb _ _ (c .if2 .taken))
+returns-2 c = rw (le-leb _ _ (c .before .if1 .left), lt-leb _ pathLimit (c .if2 .taken))
 
 path-bytes-requires : tie.Need-path-bytes-requires
 path-bytes-requires c κs = search needs
@@ -22,7 +22,7 @@ returns-3 c =
     let d = c .before in
     rw (
       le-leb _ _ (d .before .before .if1 .left),
-      le-leb _ _ (d .before .if2 .left),
+      le-leb _ pathLimit (d .before .if2 .left),
       ← d .path-bytes .ensures,
       not-true (d .path-bytes .result) (c .if3 .taken),
     )
@@ -36,7 +36,7 @@ returns-4 c =
     let d = c .before .before in
     rw (
       le-leb _ _ (d .before .before .if1 .left),
-      le-leb _ _ (d .before .if2 .left),
+      le-leb _ pathLimit (d .before .if2 .left),
       ← d .path-bytes .ensures,
       not-false (d .path-bytes .result) (c .before .if3 .left),
     )
