@@ -6,6 +6,7 @@ use mathlib.Core.List.{List, [], _∷_}
 use Prim.Native.Nat.{ℕ, _^_}
 use lib.ListN.{replicate}
 use Rattle.lists.specs.Lists.{total, countIf, bitSet}
+use lib.Count.{ones}
 use Rattle.rules.specs.declared.Relay.{Relay}
 use Rattle.rules.specs.Fresh.{freshRelay}
 use Rattle.rules.specs.Relays.{health, isEligible, eligibleSet, tooFew}
@@ -45,5 +46,5 @@ unfolding six eligibleSet bitSet
 eligible-sets = refl
 
 pub enough : tooFew 1050 10 6 six ∷ tooFew 1050 10 7 six ∷ [] ≡ false ∷ true ∷ []
-unfolding six tooFew countIf
+unfolding six tooFew eligibleSet bitSet ones
 enough = refl

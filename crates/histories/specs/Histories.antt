@@ -7,9 +7,10 @@ use Prim.Native.Nat.{ℕ, zero, suc}
 use lib.ListN.{replicate}
 use Rattle.amount.specs.declared.Cap.{Cap}
 use Rattle.amount.specs.declared.Cap.the-variants.{Unlimited, Bytes}
-use Rattle.lists.specs.Lists.{firstRow, allOf, anyOf, countIf, keep, sumOf, total, noClash}
+use Rattle.lists.specs.Lists.{firstRow, allOf, anyOf, countIf, keep, sumOf, total, noClash, bitSet}
 use Rattle.lists.specs.Bytes.{sameBytes, startsWith}
 use Rattle.text.specs.Text.{ontoFirst, parts, isPart, isPath, isPathAndSlash, isPrefix, isName}
+use lib.Count.{ones}
 use Rattle.rules.specs.declared.VolumeNo.{VolumeNo}
 use Rattle.rules.specs.declared.TokenNo.{TokenNo}
 use Rattle.rules.specs.declared.RelayNo.{RelayNo}
@@ -22,7 +23,7 @@ use Rattle.rules.specs.declared.Tables.{Tables}
 use Rattle.rules.specs.Fresh.{freshDesk, freshTables, freshVolume}
 use Rattle.rules.specs.Tables.{isEntry, isPut, ownedBy, volumeOf, tokenOf, relayOf, entryOf, cleared, withClock, withVolumes, withLastVolume, withLastToken, withLastRelay, withVersion}
 use Rattle.rules.specs.Scope.{ScopeArg, scopeFits, narrows, chain, descends}
-use Rattle.rules.specs.Relays.{tooFew, inOrder, ranked, taken, holdsShard, loaded, shardBytes, bytesOn, shardsOn, lightened}
+use Rattle.rules.specs.Relays.{tooFew, inOrder, ranked, taken, holdsShard, loaded, shardBytes, bytesOn, shardsOn, lightened, eligibleSet}
 use Rattle.rules.specs.Rent.{sizesIn, effective, rentFor, rentNow}
 use Rattle.rules.specs.Sound.{soundVolume, sameName, soundPlacement, soundIn, soundEntry, sameEntry, volumeThere, parentThere, soundToken, soundRelay, soundPut, samePath, soundSession, soundVolumes, soundEntries, soundTokens, soundRelays, soundTables, sound}
 use Rattle.rules.specs.VolumeCalls.{newVolume, hasName, createIn, createRule, depositIn, depositRule, deleteIn, deleteRule, undeleteIn, undeleteRule, dropEntries, removeEntry, removeIn, removeRule}
@@ -35,7 +36,7 @@ use Rattle.rules.specs.Calls.{advance, create, deposit, delete, undelete, grant
 
 -- what a list of calls answers: the number and the value of each
 unfoldable pub told : List Call → Desk → List (ℕ × ℕ)
-unfolding step rule askRule workRule sound soundTables soundRelays soundTokens soundEntries soundVolumes soundSession samePath soundPut soundRelay soundToken parentThere volumeThere sameEntry soundEntry soundIn soundPlacement sameName soundVolume firstRow allOf anyOf countIf keep sumOf total noClash sameBytes startsWith ontoFirst parts isPart isPath isPathAndSlash isPrefix isName isEntry isPut ownedBy volumeOf tokenOf relayOf entryOf cleared scopeFits narrows chain descends tooFew inOrder ranked taken holdsShard loaded shardBytes bytesOn shardsOn lightened sizesIn effective rentFor rentNow hasName createIn createRule depositIn depositRule deleteIn deleteRule undeleteIn undeleteRule dropEntries removeEntry removeIn removeRule tokenIn newToken grantIn grantRule attenuateIn attenuateRule revokeOwner revokeIn revokeRule lookEntry lookIn lookRule registerIn registerRule heartbeatIn heartbeatRule relaysLeave afterRent settled settle isDue isOneOf collect atEpoch advanced advanceRule openVolume openToken openRule stagePut stageToken stageRule abandonRule isReplaced isKept sizesAfter isNewPath passesQuotas passesSize passesRoom belowRent placeAll storeNew storeAt storeAll charged committed commitPlaced commitLimits commitToken commitVolume commitRule
+unfolding step rule askRule workRule sound soundTables soundRelays soundTokens soundEntries soundVolumes soundSession samePath soundPut soundRelay soundToken parentThere volumeThere sameEntry soundEntry soundIn soundPlacement sameName soundVolume firstRow allOf anyOf countIf keep sumOf total noClash sameBytes startsWith ontoFirst parts isPart isPath isPathAndSlash isPrefix isName isEntry isPut ownedBy volumeOf tokenOf relayOf entryOf cleared scopeFits narrows chain descends tooFew eligibleSet bitSet ones inOrder ranked taken holdsShard loaded shardBytes bytesOn shardsOn lightened sizesIn effective rentFor rentNow hasName createIn createRule depositIn depositRule deleteIn deleteRule undeleteIn undeleteRule dropEntries removeEntry removeIn removeRule tokenIn newToken grantIn grantRule attenuateIn attenuateRule revokeOwner revokeIn revokeRule lookEntry lookIn lookRule registerIn registerRule heartbeatIn heartbeatRule relaysLeave afterRent settled settle isDue isOneOf collect atEpoch advanced advanceRule openVolume openToken openRule stagePut stageToken stageRule abandonRule isReplaced isKept sizesAfter isNewPath passesQuotas passesSize passesRoom belowRent placeAll storeNew storeAt storeAll charged committed commitPlaced commitLimits commitToken commitVolume commitRule
 told [] d = []
 told (c ∷ cs) d = let o = step c d in (o .answer .number, o .answer .value) ∷ told cs (o .desk)
 

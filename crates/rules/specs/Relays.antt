@@ -2,9 +2,10 @@
 use mathlib.Core.Bool.{Bool, _&&_, _||_, cond}
 use mathlib.Core.List.{List, [], _∷_, _++_, map}
 use Prim.Native.Nat.{ℕ, _+_, _-_, _/_}
+use lib.Count.{ones}
 use lib.Dec.{eqb, leb, ltb}
 use lib.ListN.{length, take, replicate}
-use Rattle.lists.specs.Lists.{bit, Hit, miss, hit, find, anyOf, countIf, sumOf, bitSet}
+use Rattle.lists.specs.Lists.{bit, Hit, miss, hit, find, anyOf, sumOf, bitSet}
 use Rattle.rules.specs.declared.RelayNo.{RelayNo}
 use Rattle.rules.specs.declared.Placement.{Placement}
 use Rattle.rules.specs.declared.Volume.{Volume}
@@ -39,10 +40,9 @@ isEligible clock bytes r =
 unfoldable pub eligibleSet : ℕ → ℕ → List Relay → ℕ
 eligibleSet clock bytes rs = bitSet (isEligible clock bytes) rs
 
--- "the put is placed exactly when they number at least K+M": too few are eligible. The count of the set's ones is this count of rows
--- (`ones-rows` of crates/lists/specs/BitLaws.antt)
+-- "the put is placed exactly when they number at least K+M": the set has too few ones
 unfoldable pub tooFew : ℕ → ℕ → ℕ → List Relay → Bool
-tooFew clock bytes wanted rs = ltb (countIf (isEligible clock bytes) rs) wanted
+tooFew clock bytes wanted rs = ltb (ones (eligibleSet clock bytes rs)) wanted
 
 -- "fewest shards held first, then lowest number"
 abbrev pub comesBefore : Relay → Relay → Bool

@@ -10,10 +10,12 @@ use lib.Dec.{leb}
 use lib.ListN.{length, take, getD, replicate, length-map}
 use lib.Seq.{length-take-le, take-append-seam}
 use borrow.Author.Tests.{ltb-false, leb-true, le-leb, eqb-true, eq-eqb, not-true}
-use Rattle.lists.specs.Lists.{bit, allOf, anyOf, countIf, noClash}
+use Rattle.lists.specs.Lists.{bit, allOf, anyOf, countIf, noClash, bitSet}
 use Rattle.lists.specs.BoolLaws.{and-left, and-right, and-both, or-left, or-right, or-none, pass-or-fail, not-pass, not-both}
 use Rattle.lists.specs.TestLaws.{all-at, at-all, any-at, clash-at, at-clash}
 use Rattle.lists.specs.RowLaws.{clash-map}
+use Rattle.lists.specs.BitLaws.{ones-rows}
+use lib.Count.{ones}
 use Rattle.rules.specs.declared.RelayNo.{RelayNo}
 use Rattle.rules.specs.declared.Relay.{Relay}
 use Rattle.rules.specs.declared.Volume.{Volume}
@@ -21,7 +23,7 @@ use Rattle.rules.specs.declared.Tables.{Tables}
 use Rattle.rules.specs.Limits.{shardPlaces, eligibleHealth}
 use Rattle.rules.specs.Fresh.{noRelay, freshRelay}
 use Rattle.rules.specs.Tables.{usedRelay, freeRelay}
-use Rattle.rules.specs.Relays.{comesBefore, inOrder, ranked, isEligible, health, tooFew, taken, numberOf, placementOf, placedOn, sameRelay}
+use Rattle.rules.specs.Relays.{comesBefore, inOrder, ranked, isEligible, health, tooFew, taken, numberOf, placementOf, placedOn, sameRelay, eligibleSet}
 use Rattle.rules.specs.Sound.{isGiven, soundPlacement, sameRelayRow}
 use Rattle.rules.specs.Laws.BranchLaws.{cond-case}
 use Rattle.rules.specs.Laws.TakeLaws.{all-take, clash-take, any-map}
@@ -164,10 +166,10 @@ module _ (clock bytes wanted : ℕ) (rs : List Relay) where
 
   -- as many as are wanted
   pub length-taken : tooFew clock bytes wanted rs ≡ false → length (taken clock bytes wanted rs) ≡ wanted
-  unfolding tooFew taken
+  unfolding tooFew eligibleSet taken
   length-taken e =
       let p = isEligible clock bytes in
-      let h : wanted ≤ length (ranked p rs) = rw (length-ranked p rs) (ltb-false (countIf p rs) wanted e) in
+      let h : wanted ≤ length (ranked p rs) = rw (length-ranked p rs, ← ones-rows p rs) (ltb-false (ones (bitSet p rs)) wanted e) in
       length-map takenRows numberOf ∙ length-take-le wanted (ranked p rs) h
 
   -- each of a number that was given

@@ -5,16 +5,17 @@ use mathlib.Core.List.{List, [], _∷_, _++_, map}
 use Prim.Native.Nat.{ℕ}
 use native.Mathlib.Decide.{ℕ-discrete}
 use Rattle.amount.specs.declared.Cap.the-variants.{Unlimited}
-use Rattle.lists.specs.Lists.{firstRow, allOf, anyOf, countIf, keep, sumOf, total, noClash}
+use Rattle.lists.specs.Lists.{firstRow, allOf, anyOf, countIf, keep, sumOf, total, noClash, bitSet}
 use Rattle.lists.specs.Bytes.{sameBytes, startsWith}
 use Rattle.text.specs.Text.{ontoFirst, parts, isPart, isPath, isPathAndSlash, isPrefix, isName}
 use Rattle.serial.specs.Second.{choose, grown, placed, session, second-after, second, events, calls}
+use lib.Count.{ones}
 use Rattle.rules.specs.declared.Mode.the-variants.{Both}
 use Rattle.rules.specs.declared.Answer.{Answer}
 use Rattle.rules.specs.Fresh.{freshAccount, freshHash, freshDesk}
 use Rattle.rules.specs.Tables.{isEntry, isPut, ownedBy, volumeOf, tokenOf, entryOf}
 use Rattle.rules.specs.Scope.{scopeFits, chain}
-use Rattle.rules.specs.Relays.{tooFew, inOrder, ranked, taken, holdsShard, loaded, shardBytes, bytesOn, shardsOn, lightened}
+use Rattle.rules.specs.Relays.{tooFew, inOrder, ranked, taken, holdsShard, loaded, shardBytes, bytesOn, shardsOn, lightened, eligibleSet}
 use Rattle.rules.specs.Rent.{effective, rentFor}
 use Rattle.rules.specs.Outcome.{isAccepted}
 use Rattle.rules.specs.Sound.{soundVolume, sameName, soundPlacement, soundIn, soundEntry, sameEntry, volumeThere, parentThere, soundToken, soundRelay, soundPut, samePath, soundSession, soundVolumes, soundEntries, soundTokens, soundRelays, soundTables, sound}
@@ -63,7 +64,7 @@ told e = (e .1 .number, e .1 .value)
 
 -- a list of calls from a fresh desk, each with its answer
 unfoldable happens : List Call → List (Call × Answer)
-unfolding events step rule askRule workRule sound soundTables soundRelays soundTokens soundEntries soundVolumes soundSession samePath soundPut soundRelay soundToken parentThere volumeThere sameEntry soundEntry soundIn soundPlacement sameName soundVolume firstRow allOf anyOf countIf keep sumOf total noClash sameBytes startsWith ontoFirst parts isPart isPath isPathAndSlash isPrefix isName isEntry isPut ownedBy volumeOf tokenOf entryOf scopeFits chain tooFew inOrder ranked taken holdsShard loaded shardBytes bytesOn shardsOn lightened effective rentFor hasName createIn createRule depositIn depositRule tokenIn newToken grantIn grantRule lookEntry lookIn lookRule registerIn registerRule openVolume openToken openRule stagePut stageToken stageRule abandonRule isReplaced isKept sizesAfter isNewPath passesQuotas passesSize passesRoom belowRent placeAll storeNew storeAt storeAll charged committed commitPlaced commitLimits commitToken commitVolume commitRule
+unfolding events step rule askRule workRule sound soundTables soundRelays soundTokens soundEntries soundVolumes soundSession samePath soundPut soundRelay soundToken parentThere volumeThere sameEntry soundEntry soundIn soundPlacement sameName soundVolume firstRow allOf anyOf countIf keep sumOf total noClash sameBytes startsWith ontoFirst parts isPart isPath isPathAndSlash isPrefix isName isEntry isPut ownedBy volumeOf tokenOf entryOf scopeFits chain tooFew eligibleSet bitSet ones inOrder ranked taken holdsShard loaded shardBytes bytesOn shardsOn lightened effective rentFor hasName createIn createRule depositIn depositRule tokenIn newToken grantIn grantRule lookEntry lookIn lookRule registerIn registerRule openVolume openToken openRule stagePut stageToken stageRule abandonRule isReplaced isKept sizesAfter isNewPath passesQuotas passesSize passesRoom belowRent placeAll storeNew storeAt storeAll charged committed commitPlaced commitLimits commitToken commitVolume commitRule
 happens cs = events stepOf cs (freshDesk 100)
 
 -- the answers of the first list: 19 for the stage on an idle slot, 9 for the commit after another's, 15 for the look before the second commit
