@@ -2,9 +2,9 @@
 use mathlib.Core.Bool.{Bool, true, false, cond}
 use mathlib.Core.List.{List, [], _∷_}
 use mathlib.Core.Option.{Option, none, some}
-use Prim.Native.Nat.{ℕ, zero, suc, _+_}
+use Prim.Native.Nat.{ℕ, zero, suc, _+_, _-_}
 use lib.Dec.{eqb, ltb}
-use lib.ListN.{length}
+use lib.ListN.{length, take, drop}
 use Rattle.rules.specs.Calls.{Call}
 use Rattle.journal.specs.declared.Record.{Record}
 use Rattle.journal.specs.declared.Reading.{Reading}
@@ -13,7 +13,7 @@ use Rattle.journal.specs.declared.Next.{Next}
 use Rattle.journal.specs.declared.Next.the-variants.{End, Whole, Stop}
 use Rattle.journal.specs.Fields.{Decoded, nothing, found, text, decode}
 use Rattle.journal.specs.Records.{Version, v01, readRecord}
-use Rattle.journal.specs.Places.{RECORD, readAt}
+use Rattle.journal.specs.Places.{RECORD, readAt, callRead}
 
 -- "A journal above 65,536 bytes"
 abbrev pub journalMost : ℕ
@@ -123,3 +123,14 @@ nextNumber (Stop n) = n
 unfoldable pub nextIn : Version → List ℕ → Next
 nextIn v [] = End
 nextIn v (b ∷ l) = onBody v (framed (b ∷ l))
+
+-- what a journal holds, by the fault at its start
+abbrev pub afterStart : ℕ → List ℕ → Contents
+afterStart zero l = records v01 (drop 1 l)
+afterStart (suc n) l = stopped (suc n)
+
+-- what records hold, by what stands next in them: the call of a whole record, then the records after it
+abbrev pub afterNext : Version → List ℕ → Next → Contents
+afterNext v l End = ended
+afterNext v l (Whole r n) = onCall (callRead v (Fits r) (take (n - 2) (drop 2 l))) (records v (drop n l))
+afterNext v l (Stop n) = stopped n

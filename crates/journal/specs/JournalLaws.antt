@@ -1,16 +1,25 @@
 -- The law of a journal's records: one record, then the records of the rest. Assumes nothing.
 use mathlib.Core.Path.{_≡_, refl, sym, _∙_, ap}
 use mathlib.Core.Bool.{Bool, true, false, cond}
-use mathlib.Core.List.{List, [], _∷_}
+use mathlib.Core.List.{List, [], _∷_, _++_, append-assoc}
+use mathlib.Core.Option.{Option, none, some}
 use Prim.Native.Nat.{ℕ, zero, suc, _+_, _-_, _<_, _≤_}
 use native.Mathlib.Omega.{arith}
-use lib.Dec.{leb}
-use lib.ListN.{length, take, drop, length-drop}
+use lib.Dec.{eqb, leb, ltb}
+use lib.Pow.{areBytes}
+use lib.ListN.{length, take, drop, length-drop, length-append}
+use lib.Seq.{take-at, drop-at}
 use borrow.Author.Tests.{leb-true}
-use Rattle.journal.specs.Fields.{Decoded, nothing, found, onFound, part, asNumber, asText, decodeNumber, decodeText, decode, text}
-use Rattle.journal.specs.FieldLaws.{onFound-found, cond-found}
-use Rattle.journal.specs.Records.{Version, readRecord}
-use Rattle.journal.specs.Journal.{Contents, framed, onFrame, onCall, onMore, recordsIn, records}
+use Rattle.journal.specs.Numbers.{bytesOf}
+use Rattle.journal.specs.declared.Reading.{Reading}
+use Rattle.journal.specs.declared.Reading.the-variants.{Fits, Refused}
+use Rattle.journal.specs.Fields.{Decoded, nothing, found, onFound, part, asNumber, asText, decodeNumber, decodeText, decode, encode, text}
+use Rattle.journal.specs.FieldLaws.{onFound-found, cond-found, bytes-take, bytes-drop, decode-taken}
+use Rattle.journal.specs.NumberLaws.{length-bytesOf}
+use Rattle.journal.specs.Records.{Version, v01, Parsed, unfit, parsed, parse, readRecord}
+use Rattle.journal.specs.Places.{RECORD, readingOf, readAt, callAt}
+use Rattle.journal.specs.PlaceLaws.{reading-is-call}
+use Rattle.journal.specs.Journal.{journalMost, TOO-LARGE, VERSION, Contents, framed, stopped, onFrame, onCall, onMore, recordsIn, records, onVersion, versioned, contents, versionFault, startFault, onReading, onBody, nextIn, afterStart, afterNext}
 
 -- a part that was found leaves so many bytes fewer
 part-shorter : (n : ℕ) (l a r : List ℕ) → part n l ≡ found a r → n + length r ≤ length l
@@ -58,3 +67,69 @@ unfolding recordsIn
 records-step v b l =
     frame-same v (λ rest. recordsIn v (length l) rest) (records v) (framed (b ∷ l))
     (λ body rest e. enough v (length l) (length rest) rest (omega (arith, framed-shorter (b ∷ l) body rest e)) (omega arith))
+
+-- The code's two functions: the fault at the start, and what stands next, give what the journal holds.
+fault-start : (b : ℕ) (l : List ℕ) → versioned (b ∷ l) ≡ afterStart (versionFault (b ∷ l)) (b ∷ l)
+fault-start b l = by (eqb b 0x01)
+  where
+    by : (t : Bool) → onVersion (cond t (some v01) none) l ≡ afterStart (cond t 0 VERSION) (b ∷ l)
+    by true = refl
+    by false = refl
+
+pub start-contents : (l : List ℕ) → contents l ≡ afterStart (startFault l) l
+unfolding contents startFault
+start-contents l = by (ltb journalMost (length l)) l
+  where
+    by : (t : Bool) (m : List ℕ) → cond t (stopped TOO-LARGE) (versioned m) ≡ afterStart (cond t TOO-LARGE (versionFault m)) m
+    by true m = refl
+    by false [] = refl
+    by false (b ∷ m) = fault-start b m
+
+-- a record in its frame: its bytes, and what follows them
+module _ (l body rest : List ℕ) (h : areBytes l ≡ true) (e : framed l ≡ found body rest) where
+  abbrev lengthBytes : List ℕ
+  lengthBytes = bytesOf 2 (length body)
+
+  whole : (lengthBytes ++ body) ++ rest ≡ l
+  unfolding encode
+  whole = decode-taken (text 2 65535) l body rest h e .whole
+
+  framed-body : take (length body) (drop 2 l) ≡ body
+  framed-body =
+      rw (← whole, append-assoc lengthBytes body rest, drop-at lengthBytes (body ++ rest) 2 (length-bytesOf 2 (length body)))
+      (take-at body rest (length body) refl)
+
+  framed-rest : drop (2 + length body) l ≡ rest
+  framed-rest =
+      rw (← whole)
+      (drop-at (lengthBytes ++ body) rest (2 + length body)
+      (length-append lengthBytes body ∙ ap (λ (n : ℕ). n + length body) (length-bytesOf 2 (length body))))
+
+  body-bytes : areBytes body ≡ true
+  body-bytes = rw framed-body at (bytes-take (length body) (drop 2 l) (bytes-drop 2 l h))
+
+-- a reading that is refused is 27
+refused-record : (v : Version) (x : Parsed v) (n : ℕ) → readingOf v x ≡ Refused n → n ≡ RECORD
+refused-record v unfit n e = cc
+refused-record v (parsed k x) n e = absurd (let z : _≡_ {A = ℕ} 0 1 = cc in omega arith)
+
+-- the call of a record that was read, or 27
+read-next : (v : Version) (l body rest : List ℕ) → areBytes l ≡ true → framed l ≡ found body rest → (o : Reading) → readAt v body ≡ o
+    → onCall (readRecord v body) (records v rest) ≡ afterNext v l (onReading body o)
+unfolding readAt
+read-next v l body rest h e (Refused n) r =
+    let none-read : none ≡ readRecord v body = rw r at (reading-is-call v body (body-bytes l body rest h e)) in
+    rw (← none-read, refused-record v (parse v body) n r)
+read-next v l body rest h e (Fits x) r =
+    let read : some (callAt v x body) ≡ readRecord v body = rw r at (reading-is-call v body (body-bytes l body rest h e)) in
+    let len : 2 + length body - 2 ≡ length body = omega arith in
+    rw (← read, len, framed-body l body rest h e, framed-rest l body rest h e)
+
+pub next-contents : (v : Version) (l : List ℕ) → areBytes l ≡ true → records v l ≡ afterNext v l (nextIn v l)
+unfolding nextIn recordsIn
+next-contents v [] h = refl
+next-contents v (b ∷ l) h = records-step v b l ∙ by (framed (b ∷ l)) refl
+  where
+    by : (d : Decoded (List ℕ)) → framed (b ∷ l) ≡ d → onFrame v (records v) d ≡ afterNext v (b ∷ l) (onBody v d)
+    by nothing e = refl
+    by (found body rest) e = read-next v (b ∷ l) body rest h e (readAt v body) refl

@@ -14,7 +14,8 @@ use Rattle.journal.specs.Records.{Version, v01, fieldsOf, kindNumbered, 
 use Rattle.journal.specs.RecordLaws.{call-of-values, parse-record, parse-given, call-parsed}
 use Rattle.journal.specs.Places.{readAt, callRead}
 use Rattle.journal.specs.PlaceLaws.{reading-is-call}
-use Rattle.journal.specs.Journal.{framed}
+use Rattle.journal.specs.Journal.{framed, records, contents, startFault, nextIn, afterStart, afterNext}
+use Rattle.journal.specs.JournalLaws.{start-contents, next-contents}
 use Rattle.journal.specs.Writes.{valuesIn, givableAll, inFrame, kindIn, recordIn}
 use Rattle.journal.specs.WriteLaws.{Sized, frame-found, record-read}
 
@@ -44,6 +45,13 @@ one-record v l m c hl hm p q = sym (read-writes-back v l c hl p) ∙ read-writes
 -- what the reader answers to a list of bytes stands for the call of those bytes, or for none
 pub reader-gives-the-call : (v : Version) (l : List ℕ) → areBytes l ≡ true → callRead v (readAt v l) l ≡ readRecord v l
 reader-gives-the-call v l h = reading-is-call v l h
+
+-- what a whole journal holds, taken apart as the code does: by the fault at its start, then by what stands next, record after record
+pub start-gives-the-contents : (l : List ℕ) → contents l ≡ afterStart (startFault l) l
+start-gives-the-contents = start-contents
+
+pub next-gives-the-contents : (v : Version) (l : List ℕ) → areBytes l ≡ true → records v l ≡ afterNext v l (nextIn v l)
+next-gives-the-contents = next-contents
 
 -- a record that the writer is given, written: the frame gives its bytes back, whatever follows, and they read as its call
 pub record ReadsBack (d : Fields) (t b rest : List ℕ) : Type 0 where
