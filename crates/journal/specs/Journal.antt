@@ -1,12 +1,11 @@
 -- Document 01, "Journal": the frame of records, and the calls that a whole journal holds. Assumes nothing.
-use mathlib.Core.Bool.{Bool, true, false, cond}
+use mathlib.Core.Bool.{cond}
 use mathlib.Core.List.{List, [], _∷_}
 use mathlib.Core.Option.{Option, none, some}
 use Prim.Native.Nat.{ℕ, zero, suc, _+_, _-_}
 use lib.Dec.{eqb, ltb}
 use lib.ListN.{length, take, drop}
 use Rattle.rules.specs.Calls.{Call}
-use Rattle.journal.specs.declared.Record.{Record}
 use Rattle.journal.specs.declared.Reading.{Reading}
 use Rattle.journal.specs.declared.Reading.the-variants.{Fits, Refused}
 use Rattle.journal.specs.declared.Next.{Next}

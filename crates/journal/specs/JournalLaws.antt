@@ -1,9 +1,9 @@
 -- The law of a journal's records: one record, then the records of the rest. Assumes nothing.
-use mathlib.Core.Path.{_≡_, refl, sym, _∙_, ap}
+use mathlib.Core.Path.{_≡_, refl, _∙_, ap}
 use mathlib.Core.Bool.{Bool, true, false, cond}
 use mathlib.Core.List.{List, [], _∷_, _++_, append-assoc}
-use mathlib.Core.Option.{Option, none, some}
-use Prim.Native.Nat.{ℕ, zero, suc, _+_, _-_, _<_, _≤_}
+use mathlib.Core.Option.{none, some}
+use Prim.Native.Nat.{ℕ, zero, suc, _+_, _-_, _≤_}
 use native.Mathlib.Omega.{arith}
 use lib.Dec.{eqb, leb, ltb}
 use lib.Pow.{areBytes}
@@ -13,13 +13,13 @@ use borrow.Author.Tests.{leb-true}
 use Rattle.journal.specs.Numbers.{bytesOf}
 use Rattle.journal.specs.declared.Reading.{Reading}
 use Rattle.journal.specs.declared.Reading.the-variants.{Fits, Refused}
-use Rattle.journal.specs.Fields.{Decoded, nothing, found, onFound, part, asNumber, asText, decodeNumber, decodeText, decode, encode, text}
+use Rattle.journal.specs.Fields.{Decoded, nothing, found, part, asNumber, asText, decodeNumber, decodeText, decode, encode, text}
 use Rattle.journal.specs.FieldLaws.{onFound-found, cond-found, bytes-take, bytes-drop, decode-taken}
 use Rattle.journal.specs.NumberLaws.{length-bytesOf}
 use Rattle.journal.specs.Records.{Version, v01, Parsed, unfit, parsed, parse, readRecord}
 use Rattle.journal.specs.Places.{RECORD, readingOf, readAt, callAt}
 use Rattle.journal.specs.PlaceLaws.{reading-is-call}
-use Rattle.journal.specs.Journal.{journalMost, TOO-LARGE, VERSION, Contents, framed, stopped, onFrame, onCall, onMore, recordsIn, records, onVersion, versioned, contents, versionFault, startFault, onReading, onBody, nextIn, afterStart, afterNext}
+use Rattle.journal.specs.Journal.{journalMost, TOO-LARGE, VERSION, Contents, framed, stopped, onFrame, onCall, recordsIn, records, onVersion, versioned, contents, versionFault, startFault, onReading, onBody, nextIn, afterStart, afterNext}
 
 -- a part that was found leaves so many bytes fewer
 part-shorter : (n : ℕ) (l a r : List ℕ) → part n l ≡ found a r → n + length r ≤ length l

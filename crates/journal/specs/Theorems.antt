@@ -10,7 +10,7 @@ use Rattle.rules.specs.Calls.{Call}
 use Rattle.journal.specs.declared.Kind.{Kind}
 use Rattle.journal.specs.declared.Fields.{Fields}
 use Rattle.journal.specs.Fields.{found}
-use Rattle.journal.specs.Records.{Version, v01, fieldsOf, kindNumbered, callOf, kindOf, valuesOf, parse, parsed, callParsed, readRecord, recordBytes, writeRecord, writable}
+use Rattle.journal.specs.Records.{Version, v01, fieldsOf, kindNumbered, callOf, kindOf, valuesOf, parse, callParsed, readRecord, recordBytes, writeRecord, writable}
 use Rattle.journal.specs.RecordLaws.{call-of-values, parse-record, parse-given, call-parsed}
 use Rattle.journal.specs.Places.{readAt, callRead}
 use Rattle.journal.specs.PlaceLaws.{reading-is-call}

@@ -20,7 +20,7 @@ returns c = sym (ap namedBy (no-kind 1 (c .before .args .n) (kinds v01) refl (in
 
 returns-2 : tie.Need-returns-2
 unfolding named
-returns-2 c = sym (ap namedBy (no-kind 1 (c .before .before .args .n) (kinds v01) refl (inr (c .if2 .taken))))
+returns-2 c = sym (ap namedBy (no-kind 1 (c .before .before .args .n) (kinds v01) refl (inr (omega (arith, c .if2 .taken)))))
 
 cast-i : tie.Need-cast-i
 cast-i c = search needs
