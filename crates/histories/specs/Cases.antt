@@ -5,7 +5,7 @@ use mathlib.Core.Bool.{true, false}
 use mathlib.Core.List.{List, [], _∷_}
 use Prim.Native.Nat.{ℕ, _^_}
 use lib.ListN.{replicate}
-use Rattle.lists.specs.Lists.{total, countIf, bitSet}
+use Rattle.lists.specs.Lists.{total, bitSet}
 use lib.Count.{ones}
 use Rattle.rules.specs.declared.Relay.{Relay}
 use Rattle.rules.specs.Fresh.{freshRelay}
@@ -17,8 +17,8 @@ pub mebibyte-rent : rentOf 100 (effective 4 2 (2 ^ 20 ∷ [])) ≡ 150
 unfolding effective total
 mebibyte-rent = refl
 
--- rounded up once for the volume, then once for the rent: 3+1 with 7,864 raw bytes in two objects is 2 coins
-pub rounded-twice : effective 3 1 (7000 ∷ 864 ∷ []) ∷ rentOf 100 (effective 3 1 (7000 ∷ 864 ∷ [])) ∷ [] ≡ 10486 ∷ 2 ∷ []
+-- rounded up once for the volume, not for each object, then once for the rent: 3+1 with 7,864 raw bytes in three objects is 2 coins
+pub rounded-twice : effective 3 1 (7000 ∷ 862 ∷ 2 ∷ []) ∷ rentOf 100 (effective 3 1 (7000 ∷ 862 ∷ 2 ∷ [])) ∷ [] ≡ 10486 ∷ 2 ∷ []
 unfolding effective total
 rounded-twice = refl
 
@@ -26,9 +26,10 @@ rounded-twice = refl
 unfoldable pub relay : ℕ → ℕ → Relay
 relay n held = record { no = record { 0 = n }; capacity = 1000; used = 0; held = held; beat = 1000 }
 
+-- in another order than that of their numbers
 unfoldable pub six : List Relay
 unfolding relay
-six = relay 1 3 ∷ relay 2 0 ∷ relay 3 0 ∷ relay 4 2 ∷ relay 5 1 ∷ relay 6 0 ∷ replicate 26 freshRelay
+six = relay 1 3 ∷ relay 6 0 ∷ relay 3 0 ∷ relay 4 2 ∷ relay 5 1 ∷ relay 2 0 ∷ replicate 26 freshRelay
 
 -- a heartbeat at 1000: health 0 at 1100
 pub no-health : health 1100 (relay 1 3) ≡ 0

@@ -3,6 +3,7 @@
 use mathlib.Core.Path.{_≡_}
 use mathlib.Core.Bool.{true, false}
 use mathlib.Core.List.{List}
+use mathlib.Core.Option.{some}
 use Prim.Native.Nat.{ℕ, _+_, _≤_, _<_}
 use Rattle.lists.specs.Lists.{miss, hit}
 use Rattle.rules.specs.declared.VolumeNo.{VolumeNo}
@@ -17,7 +18,7 @@ use Rattle.rules.specs.Outcome.{isAccepted, deskRefused}
 use Rattle.rules.specs.Sound.{sound}
 use Rattle.rules.specs.Calls.{Ask, delete, Call, ask, rule, step, run}
 use Rattle.rules.specs.Serial.{Demand3}
-use Rattle.rules.specs.Numbering.{NumberKind, Gives, lastOf}
+use Rattle.rules.specs.Numbering.{NumberKind, givenBy, lastOf, NextNumber, listGives}
 use Rattle.rules.specs.Used.{listAdds}
 use Rattle.rules.specs.Coins.{liveBalances, coinsIn, coinsPaid, coinsBack, summed}
 use Rattle.rules.specs.Laws.Demand3
@@ -25,6 +26,7 @@ use Rattle.rules.specs.Laws.Reached
 use Rattle.rules.specs.Laws.CoinLaws
 use Rattle.rules.specs.Laws.RefusalLaws
 use Rattle.rules.specs.Laws.GoneLaws
+use Rattle.rules.specs.Laws.CountedLaws
 use Rattle.rules.specs.Laws.UsedLaws
 
 -- "A refusal gives its number, value 0, and the desk is as before, session included.": of every call that is refused, on every desk
@@ -54,17 +56,22 @@ module _ (rate : ℕ) (cs : List Call) where
   pub deposits-add-up : run cs (freshDesk rate) .tables .deposits ≡ summed coinsIn cs (freshDesk rate)
   deposits-add-up = CoinLaws.deposits-summed rate cs
 
+  -- "Each kind counts from 1": the last number of each kind is how many of it were given
+  pub numbers-counted : (k : NumberKind) → lastOf k (run cs (freshDesk rate) .tables) ≡ listGives k cs (freshDesk rate)
+  numbers-counted = CountedLaws.numbers-summed rate cs
+
   -- "A commit adds its staged sizes to the token and every ancestor; nothing is given back later.": a token's used bytes are the sum of these
   pub used-adds-up : (n : TokenNo) (i : ℕ) (k : Token) → tokenOf n (run cs (freshDesk rate) .tables) ≡ hit i k → k .used ≡ listAdds n cs (freshDesk rate)
   used-adds-up = UsedLaws.used-summed rate cs
 
--- "Each kind counts from 1, is never given twice": an accepted call that gives a number gives the one after the last, which is then the last,
-pub number-next : (k : NumberKind) (a : Ask) → Gives k a → (d : Desk) → isAccepted (step (ask a) d .answer) ≡ true
-    → (step (ask a) d .answer .value ≡ lastOf k (d .tables) + 1) × (lastOf k (step (ask a) d .desk .tables) ≡ step (ask a) d .answer .value)
+-- "Each kind counts from 1, is never given twice": an accepted call that gives a number gives the one after the last, which is then the last
+-- and in its table,
+pub number-next : (k : NumberKind) (a : Ask) → givenBy a ≡ some k → (d : Desk) → isAccepted (step (ask a) d .answer) ≡ true
+    → NextNumber k (d .tables) (step (ask a) d .answer .value) (step (ask a) d .desk .tables)
 number-next = GoneLaws.number-next
 
 -- so of two calls that give a number of one kind the later one, whatever calls stand between them, gives the larger
-pub number-once : (k : NumberKind) (a b : Ask) → Gives k a → Gives k b → (d : Desk) (cs : List Call) → isAccepted (step (ask a) d .answer) ≡ true
+pub number-once : (k : NumberKind) (a b : Ask) → givenBy a ≡ some k → givenBy b ≡ some k → (d : Desk) (cs : List Call) → isAccepted (step (ask a) d .answer) ≡ true
     → isAccepted (step (ask b) (run cs (step (ask a) d .desk)) .answer) ≡ true
     → step (ask a) d .answer .value < step (ask b) (run cs (step (ask a) d .desk)) .answer .value
 number-once = GoneLaws.number-once
