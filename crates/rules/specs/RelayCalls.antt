@@ -40,15 +40,15 @@ registerRule capacity t =
     (registerIn t (nextRelay t capacity) (find freeRelay (t .relays))))
 
 -- the relay's last heartbeat is now
-abbrev pub beaten : Tables → ℕ → Relay → Tables
-beaten t i r = withRelays t (set (t .relays) i (withBeat r (t .clock)))
+abbrev pub heartbeatAt : Tables → ℕ → Relay → Tables
+heartbeatAt t i r = withRelays t (set (t .relays) i (withBeat r (t .clock)))
 
 -- 26: "unknown, or health 0"
 unfoldable pub heartbeatIn : Tables → Hit Relay → TablesOutcome
 heartbeatIn t miss = refused t NO-RELAY
 heartbeatIn t (hit i r) =
     cond (eqb (health (t .clock) r) 0) (refused t NO-RELAY)
-    (accepted 0 (beaten t i r))
+    (accepted 0 (heartbeatAt t i r))
 
 -- "10 heartbeat | relay | 26 | 0"
 unfoldable pub heartbeatRule : RelayNo → Tables → TablesOutcome

@@ -31,7 +31,7 @@ use Rattle.rules.specs.Sound.{shardsFit, sound}
 use Rattle.rules.specs.Outcome.{success, successWith, isAccepted, refused, deskRefused, onTables}
 use Rattle.rules.specs.VolumeCalls.{isOpen, isDeleted, hasName, nextVolume, created, createIn, createRule, tooMuch, deposited, depositIn, depositRule, deleted, deleteIn, deleteRule, undeleted, undeleteIn, undeleteRule, removed, removeEntry, removeIn, removeRule}
 use Rattle.rules.specs.TokenCalls.{granted, tokenIn, nextToken, revoked, newToken, grantIn, grantRule, attenuateIn, attenuateRule, revokeOwner, revokeIn, revokeRule, lookEntry, lookIn, lookRule}
-use Rattle.rules.specs.RelayCalls.{nextRelay, registered, registerIn, beaten, registerRule, heartbeatIn, heartbeatRule}
+use Rattle.rules.specs.RelayCalls.{nextRelay, registered, registerIn, heartbeatAt, registerRule, heartbeatIn, heartbeatRule}
 use Rattle.rules.specs.Advance.{advanced, badBlock, advanceRule}
 use Rattle.rules.specs.Calls.{Ask, advance, create, deposit, delete, undelete, grant, attenuate, revoke, remove, look, register, heartbeat, askRule, ask, rule, step}
 
@@ -67,7 +67,7 @@ pub data Effect (t : Tables) : Ask → Answer → Tables → Type 0 where
       → find freeRelay (t .relays) ≡ hit i old
       → Effect t (register capacity) (success (nextRelay t capacity .no .0)) (registered t i (nextRelay t capacity))
   beats : (n : RelayNo) (i : ℕ) (r : Relay) → relayOf n t ≡ hit i r → eqb (health (t .clock) r) 0 ≡ false
-      → Effect t (heartbeat n) (success 0) (beaten t i r)
+      → Effect t (heartbeat n) (success 0) (heartbeatAt t i r)
 
 -- what any call does
 pub data Does (t : Tables) (a : Ask) : TablesOutcome → Type 0 where

@@ -24,7 +24,7 @@ use Rattle.rules.specs.Fresh.{noRelay, freshEntry, freshRelay}
 use Rattle.rules.specs.Tables.{usedEntry, usedRelay, isRelay, isVolume, relayOf, withRelays, withLastRelay, withBeat}
 use Rattle.rules.specs.Relays.{placedOn, sameRelay, holdsShard, bytesOn, shardsOn}
 use Rattle.rules.specs.Sound.{relayGiven, soundPlacement, soundIn, soundVolume, soundEntry, soundToken, soundRelay, sameRelayRow}
-use Rattle.rules.specs.RelayCalls.{newRelay, registered, beaten}
+use Rattle.rules.specs.RelayCalls.{newRelay, registered, heartbeatAt}
 use Rattle.rules.specs.Laws.SetLaws.{all-set}
 use Rattle.rules.specs.Laws.NumberLaws.{numbered-used, found-passes, same-number, new-number}
 use Rattle.rules.specs.Laws.RowFacts.{entry-facts, relay-facts, facts-relay, count-facts, facts-counts}
@@ -166,7 +166,7 @@ module _ (t : Tables) (inv : Whole t) where
           held = f .held;
         })
 
-    pub beat-keeps : Keeps t (beaten t i r)
+    pub beat-keeps : Keeps t (heartbeatAt t i r)
     unfolding relayOf
     beat-keeps =
         relays-change t (set (t .relays) i beating) inv (length-set (t .relays) i beating)
