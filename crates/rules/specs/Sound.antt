@@ -29,12 +29,15 @@ use Rattle.rules.specs.Relays.{placedOn, sameRelay, bytesOn, shardsOn}
 abbrev pub isGiven : ℕ → ℕ → Bool
 isGiven last n = within 1 last n
 
--- the grace count that each status has, below 3, at which the volume is collected: 0 when ACTIVE, 1 or 2 in GRACE_PERIOD, 0 to 2 when DELETED;
--- "a .. delete after the clock" of a volume that is DELETED
+-- the grace count that each status has, below 3, at which the volume is collected: 0 when ACTIVE, 1 or 2 in GRACE_PERIOD, 0 to 2 when DELETED
+abbrev pub soundGrace : Status → ℕ → Bool
+soundGrace Active grace = eqb grace 0
+soundGrace Grace grace = within 1 2 grace
+soundGrace Deleted grace = leb grace 2
+
+-- and "a .. delete after the clock", whatever the status
 abbrev pub soundStatus : ℕ → Status → ℕ → ℕ → Bool
-soundStatus clock Active grace deleted = eqb grace 0
-soundStatus clock Grace grace deleted = within 1 2 grace
-soundStatus clock Deleted grace deleted = leb grace 2 && leb deleted clock
+soundStatus clock s grace deleted = soundGrace s grace && leb deleted clock
 
 -- "K 2..16, M 1..8 (000)"
 abbrev pub shardsFit : ℕ → ℕ → Bool

@@ -3,7 +3,7 @@ ghost use mathlib.Core.Path.{_≡_};
 ghost use lib.ListN.{drop};
 ghost use Rattle.lists.specs.Lists.{allOf, anyOf, noClash};
 ghost use Rattle.rules.specs.declared.Tables.{Tables};
-ghost use Rattle.rules.specs.Sound.{soundStatus, soundVolume, soundVolumes, sameVolume, sameName};
+ghost use Rattle.rules.specs.Sound.{soundGrace, soundStatus, soundVolume, soundVolumes, sameVolume, sameName};
 use rows::any_volume;
 use rows::cap_fits;
 use rows::is_given;
@@ -15,9 +15,9 @@ use rules::Volume;
 use text::name::holds_name;
 use text::same_texts;
 
-// The grace count that the status has, and no delete after the clock.
-fn sound_status(clock: u64, s: Status, grace: u8, deleted: u64) -> bool
-    ensures { λ r. ⌜ r ≡ soundStatus clock s grace deleted ⌝ }
+// The grace count that the status has.
+fn sound_grace(s: Status, grace: u8) -> bool
+    ensures { λ r. ⌜ r ≡ soundGrace s grace ⌝ }
 {
     match s {
         Status::Active => grace == 0,
@@ -27,13 +27,18 @@ fn sound_status(clock: u64, s: Status, grace: u8, deleted: u64) -> bool
             }
             grace <= 2
         }
-        Status::Deleted => {
-            if 2 < grace {
-                return false;
-            }
-            deleted <= clock
-        }
+        Status::Deleted => grace <= 2,
     }
+}
+
+// That grace count, and no delete after the clock.
+fn sound_status(clock: u64, s: Status, grace: u8, deleted: u64) -> bool
+    ensures { λ r. ⌜ r ≡ soundStatus clock s grace deleted ⌝ }
+{
+    if !sound_grace(s, grace) {
+        return false;
+    }
+    deleted <= clock
 }
 
 fn sound_volume(v: Volume, last: u32, clock: u64) -> bool

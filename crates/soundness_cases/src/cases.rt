@@ -110,6 +110,12 @@ pub(crate) fn statuses(d: Desk) {
     let mut v = full::volume(8, h, Cap::Unlimited, Status::Deleted);
     v.deleted = 51;
     show(b"a delete after the clock", with_volume(d, v));
+    let mut v = full::volume(8, h, Cap::Unlimited, Status::Active);
+    v.deleted = 51;
+    show(
+        b"ACTIVE with a delete block after the clock",
+        with_volume(d, v),
+    );
 }
 
 pub(crate) fn names(d: Desk) {

@@ -100,7 +100,7 @@ module _ (t : Tables) (inv : Whole t) where
           shards = search (and-left, and-right);
           cap = search (and-left, and-right);
           balance = refl;
-          status = refl;
+          status = le-leb 0 (t .clock) (omega arith);
         })
 
     -- other volumes are found as before

@@ -22,7 +22,7 @@ use Rattle.rules.specs.declared.Tables.{Tables}
 use Rattle.rules.specs.Tables.{usedVolume, usedEntry, usedToken, usedRelay, busy, isVolume}
 use Rattle.rules.specs.Scope.{depth}
 use Rattle.rules.specs.Relays.{placedOn}
-use Rattle.rules.specs.Sound.{isGiven, soundStatus, soundVolume, relayGiven, soundPlacement, soundIn, soundEntry, volumeThere, parentThere, soundToken, soundRelay, soundSession}
+use Rattle.rules.specs.Sound.{isGiven, soundGrace, soundStatus, soundVolume, relayGiven, soundPlacement, soundIn, soundEntry, volumeThere, parentThere, soundToken, soundRelay, soundSession}
 use Rattle.rules.specs.Laws.RowFacts.{volume-facts, facts-volume, free-volume, entry-facts, facts-entry, free-entry, token-facts, facts-token, free-token, relay-facts, facts-relay, free-relay, session-facts, facts-session, idle-session}
 
 -- the clock does not go back, and no number that was given is taken back
@@ -48,11 +48,9 @@ given-grown a b n h e =
 
 -- volumes: the last number and the clock
 status-grown : (c d : ℕ) (s : Status) (grace deleted : ℕ) → c ≤ d → soundStatus c s grace deleted ≡ true → soundStatus d s grace deleted ≡ true
-status-grown c d Active grace deleted h e = e
-status-grown c d Grace grace deleted h e = e
-status-grown c d Deleted grace deleted h e =
-    and-both (and-left (leb grace 2) (leb deleted c) e)
-    (le-leb deleted d (omega (arith, leb-true deleted c (and-right (leb grace 2) (leb deleted c) e))))
+status-grown c d s grace deleted h e =
+    and-both (and-left (soundGrace s grace) (leb deleted c) e)
+    (le-leb deleted d (omega (arith, leb-true deleted c (and-right (soundGrace s grace) (leb deleted c) e))))
 
 module _ (t u : Tables) (g : Grown t u) where
   pub volume-grown : (v : Volume) → soundVolume t v ≡ true → soundVolume u v ≡ true

@@ -9,7 +9,7 @@ use native.Mathlib.Omega.{arith}
 use borrow.Author.Tests.{leb-true, leb-false, le-leb}
 use lib.Dec.{leb}
 use lib.ListN.{length, getD, length-map}
-use Rattle.lists.specs.BoolLaws.{and-both, or-left, pass-or-fail}
+use Rattle.lists.specs.BoolLaws.{and-both, or-left, pass-or-fail, and-right}
 use Rattle.lists.specs.TestLaws.{all-at}
 use Rattle.lists.specs.RowLaws.{map-after}
 use Rattle.text.specs.Text.{holds, isName}
@@ -23,7 +23,7 @@ use Rattle.rules.specs.Tables.{given, usedVolume}
 use Rattle.rules.specs.Scope.{capFits}
 use Rattle.rules.specs.Rent.{rentNow}
 use Rattle.rules.specs.Advance.{standing, afterRent, settled, settle, graceSpent, isOverdue, isDue}
-use Rattle.rules.specs.Sound.{isGiven, soundStatus, shardsFit, soundVolume}
+use Rattle.rules.specs.Sound.{isGiven, soundGrace, soundStatus, shardsFit, soundVolume}
 use Rattle.rules.specs.Laws.SoundParts.{Parts}
 use Rattle.rules.specs.Laws.Shape.{Shape}
 use Rattle.rules.specs.Laws.RowFacts.{VolumeFacts, volume-facts, facts-volume}
@@ -64,10 +64,12 @@ standing-status : (c : ℕ) (s : Status) (paid : Bool) (v : Volume) → v .statu
     → graceSpent (standing s paid v .status) (standing s paid v .grace) ≡ false
     → soundStatus c (standing s paid v .status) (standing s paid v .grace) (standing s paid v .deleted) ≡ true
 standing-status c Active true v e h g = rw e h
-standing-status c Active false v e h g = refl
-standing-status c Grace true v e h g = refl
+standing-status c Active false v e h g = and-right (soundGrace Active (v .grace)) (leb (v .deleted) c) h
+standing-status c Grace true v e h g = and-right (soundGrace Grace (v .grace)) (leb (v .deleted) c) h
 standing-status c Grace false v e h g =
-    and-both (le-leb 1 (v .grace + 1) (omega arith)) (le-leb (v .grace + 1) 2 (omega (arith, leb-false 3 (v .grace + 1) g)))
+    and-both
+    (and-both (le-leb 1 (v .grace + 1) (omega arith)) (le-leb (v .grace + 1) 2 (omega (arith, leb-false 3 (v .grace + 1) g))))
+    (and-right (soundGrace Grace (v .grace)) (leb (v .deleted) c) h)
 standing-status c Deleted paid v e h g = rw e h
 
 -- a volume in use that is not due has grace left

@@ -18,7 +18,7 @@ use Rattle.rules.specs.declared.Tables.{Tables}
 use Rattle.rules.specs.Limits.{balanceLimit, depositsLimit}
 use Rattle.rules.specs.Fresh.{freshVolume, freshToken}
 use Rattle.rules.specs.Tables.{usedToken, numbered, isVolume, volumeOf, withVolumes, withDeposits, withBalance, withStatus}
-use Rattle.rules.specs.Sound.{soundStatus, soundVolume}
+use Rattle.rules.specs.Sound.{soundGrace, soundStatus, soundVolume}
 use Rattle.rules.specs.VolumeCalls.{tooMuch, isTokenOf, deposited, deleted, undeleted}
 use Rattle.rules.specs.Laws.RestParts.{rest-of}
 use Rattle.rules.specs.Laws.LastingLaws.{lasting, lasting-change}
@@ -32,10 +32,10 @@ use Rattle.rules.specs.Laws.TokensGo.{ParentsStay}
 use Rattle.rules.specs.Laws.TokensChange.{tokens-leave}
 
 -- a grace count is at most 2
-grace-small : (clock : ℕ) (s : Status) (grace deleted : ℕ) → soundStatus clock s grace deleted ≡ true → grace ≤ 2
-grace-small clock Active grace deleted e = omega (arith, eqb-true grace 0 e)
-grace-small clock Grace grace deleted e = leb-true grace 2 (and-right (leb 1 grace) (leb grace 2) e)
-grace-small clock Deleted grace deleted e = leb-true grace 2 (and-left (leb grace 2) (leb deleted clock) e)
+grace-small : (s : Status) (grace : ℕ) → soundGrace s grace ≡ true → grace ≤ 2
+grace-small Active grace e = omega (arith, eqb-true grace 0 e)
+grace-small Grace grace e = leb-true grace 2 (and-right (leb 1 grace) (leb grace 2) e)
+grace-small Deleted grace e = leb-true grace 2 e
 
 -- a volume that a search found changes in what does not last
 module _ (t : Tables) (inv : Whole t) (n : VolumeNo) (i : ℕ) (v : Volume) (found : volumeOf n t ≡ hit i v) where
@@ -105,7 +105,7 @@ module _ (t : Tables) (inv : Whole t) (n : VolumeNo) (i : ℕ) (v : Volume) (fou
 
   pub delete-keeps : FamilyInOneVolume t → Keeps t (deleted t i v)
   delete-keeps kin =
-      let small = grace-small (t .clock) (v .status) (v .grace) (v .deleted) (found-facts .status) in
+      let small = grace-small (v .status) (v .grace) (and-left (soundGrace (v .status) (v .grace)) (leb (v .deleted) (t .clock)) (found-facts .status)) in
       let first =
       status-changes Deleted (v .grace) (t .clock)
       (and-both (le-leb (v .grace) 2 small) (le-leb (t .clock) (t .clock) (omega arith))) in
@@ -113,4 +113,4 @@ module _ (t : Tables) (inv : Whole t) (n : VolumeNo) (i : ℕ) (v : Volume) (fou
       (tokens-leave (withVolumes t (set (t .volumes) i (withStatus v Deleted (v .grace) (t .clock)))) (isTokenOf (v .no)) (parents-stay kin) (first .whole))
 
   pub undelete-keeps : Keeps t (undeleted t i v)
-  undelete-keeps = status-changes Active 0 0 refl
+  undelete-keeps = status-changes Active 0 0 (le-leb 0 (t .clock) (omega arith))

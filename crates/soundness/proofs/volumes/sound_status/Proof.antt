@@ -1,33 +1,16 @@
 use borrow.Author.Needs.{needs}
-use borrow.Author.Tests.{le-leb, lt-leb}
+use borrow.Author.Tests.{not-true, not-false}
 use Rattle.soundness.proofs.volumes.sound_status.Statement.{statement}
 use Rattle.soundness.proofs.volumes.sound_status.Tie as tie
 
-enum-told : tie.Need-enum-told
-enum-told c = search needs
-
-enum-told-2 : tie.Need-enum-told-2
-enum-told-2 c = search needs
+sound-grace-requires : tie.Need-sound-grace-requires
+sound-grace-requires c κs = search needs
 
 returns : tie.Need-returns
-returns c = rw (c .before .enum-told2 .given .1, lt-leb _ _ (c .if1 .taken))
-
-enum-told-3 : tie.Need-enum-told-3
-enum-told-3 c = search needs
+returns c = rw (← c .before .sound-grace .ensures, not-true (c .before .sound-grace .result) (c .if1 .taken))
 
 returns-2 : tie.Need-returns-2
-returns-2 c = rw (c .before .enum-told3 .given .1, lt-leb _ _ (c .if2 .taken))
-
-returns-3 : tie.Need-returns-3
-returns-3 c = rw (c .enum-told .given .1)
-
-returns-4 : tie.Need-returns-4
-returns-4 c = rw (c .before .enum-told2 .given .1, le-leb _ _ (c .if1 .left))
-
-returns-5 : tie.Need-returns-5
-returns-5 c = rw (c .before .enum-told3 .given .1, le-leb _ _ (c .if2 .left))
+returns-2 c = rw (← c .before .sound-grace .ensures, not-false (c .before .sound-grace .result) (c .if1 .left))
 
 pub sound-status-spec : {M : Type 1} → statement M
-sound-status-spec =
-    tie.close
-    (tie.spec enum-told enum-told-2 returns enum-told-3 returns-2 returns-3 returns-4 returns-5)
+sound-status-spec = tie.close (tie.spec sound-grace-requires returns returns-2)
