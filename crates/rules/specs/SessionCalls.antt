@@ -1,7 +1,7 @@
 -- Document 01, "The calls" and "Stage and commit": open, stage and abandon, each on the tables and one slot: its checks in the order of its row,
 -- then its effect. Number 1 for the slot itself is tested in Calls.antt. Assumes nothing.
 use mathlib.Core.Bool.{_&&_, cond, not}
-use mathlib.Core.List.{List, [], _∷_}
+use mathlib.Core.List.{List}
 use Prim.Native.Nat.{ℕ, _+_}
 use lib.Dec.{leb}
 use lib.ListN.{set, replicate}
