@@ -63,7 +63,7 @@ pub mod AgainLaws
 pub mod InOrder
 pub mod InOrderLaws
 pub mod GoneLaws
-pub mod CountedLaws
+pub mod GivenLaws
 pub mod UsedLaws
 pub mod SerialLaws
 pub mod SerialCase

@@ -26,7 +26,7 @@ use Rattle.rules.specs.Laws.Reached
 use Rattle.rules.specs.Laws.CoinLaws
 use Rattle.rules.specs.Laws.RefusalLaws
 use Rattle.rules.specs.Laws.GoneLaws
-use Rattle.rules.specs.Laws.CountedLaws
+use Rattle.rules.specs.Laws.GivenLaws
 use Rattle.rules.specs.Laws.UsedLaws
 
 -- "A refusal gives its number, value 0, and the desk is as before, session included.": of every call that is refused, on every desk
@@ -58,7 +58,7 @@ module _ (rate : ℕ) (cs : List Call) where
 
   -- "Each kind counts from 1": the last number of each kind is how many of it were given
   pub numbers-counted : (k : NumberKind) → lastOf k (run cs (freshDesk rate) .tables) ≡ listGives k cs (freshDesk rate)
-  numbers-counted = CountedLaws.numbers-summed rate cs
+  numbers-counted = GivenLaws.numbers-summed rate cs
 
   -- "A commit adds its staged sizes to the token and every ancestor; nothing is given back later.": a token's used bytes are the sum of these
   pub used-adds-up : (n : TokenNo) (i : ℕ) (k : Token) → tokenOf n (run cs (freshDesk rate) .tables) ≡ hit i k → k .used ≡ listAdds n cs (freshDesk rate)
