@@ -1,2 +1,4 @@
+pub mod RowAnswers
+pub mod StepLaws
 pub mod HealthLaws
 pub mod FindLaws

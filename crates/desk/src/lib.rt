@@ -9,6 +9,8 @@ mod volumes;
 ghost use mathlib.Core.Path.{_≡_};
 ghost use mathlib.Core.Bool.{true};
 ghost use Prim.Native.Nat.{_<_};
+ghost use lib.ListN.{getD};
+ghost use Rattle.rules.specs.Fresh.{freshSession};
 ghost use Rattle.rules.specs.Outcome.{onTables};
 ghost use Rattle.rules.specs.Calls.{Ask, Work, Call, step, withSlot};
 use amount::Cap;
@@ -34,6 +36,15 @@ fn on_tables(d: Desk, o: TablesOutcome) -> Outcome
     let sessions = d.sessions;
     let desk = Desk { tables, sessions };
     Outcome { answer, desk }
+}
+
+// The session of a slot.
+fn slot_of(d: Desk, slot: usize) -> Session
+    requires { ⌜ slot < 4 ⌝ }
+    ensures { λ s. ⌜ s ≡ getD (d .sessions) slot freshSession ⌝ }
+{
+    let sessions = d.sessions;
+    sessions[slot]
 }
 
 // The desk with what a call on its tables and one slot left.
@@ -106,8 +117,7 @@ pub fn open(d: Desk, slot: u8, token: TokenNo) -> Outcome
     }
     let i = slot as usize;
     let t = d.tables;
-    let slots = d.sessions;
-    let s = slots[i];
+    let s = slot_of(d, i);
     on_slot(d, i, sessions::open_on(t, s, token))
 }
 
@@ -123,8 +133,7 @@ pub fn stage(d: Desk, slot: u8, path: &[u8], size: u64, hash: Hash) -> Outcome
     }
     let i = slot as usize;
     let t = d.tables;
-    let slots = d.sessions;
-    let s = slots[i];
+    let s = slot_of(d, i);
     on_slot(d, i, sessions::stage_on(t, s, path, size, hash))
 }
 
@@ -140,7 +149,6 @@ pub fn abandon(d: Desk, slot: u8) -> Outcome
     }
     let i = slot as usize;
     let t = d.tables;
-    let slots = d.sessions;
-    let s = slots[i];
+    let s = slot_of(d, i);
     on_slot(d, i, sessions::abandon_on(t, s))
 }

@@ -1,10 +1,12 @@
 // Open, stage and abandon, on the tables and one slot.
 ghost use mathlib.Core.Path.{_≡_};
-ghost use mathlib.Core.Bool.{true};
+ghost use mathlib.Core.Bool.{true, _&&_};
 ghost use Prim.Native.Nat.{_<_};
+ghost use lib.Dec.{leb};
 ghost use lib.ListN.{set, take};
 ghost use Rattle.lists.specs.Lists.{hit, find};
 ghost use Rattle.text.specs.Text.{pathLimit, isPath};
+ghost use Rattle.rules.specs.Limits.{sizeLimit};
 ghost use Rattle.rules.specs.Tables.{isPut, staged};
 ghost use Rattle.rules.specs.SessionCalls.{openRule, openToken, openVolume, opened, newPut, withPuts, stageRule, stageToken, stagePut, abandonRule};
 use super::answers::accept_slot;
@@ -149,13 +151,20 @@ fn stage_token(t: Tables, s: Session, k: Token, path: &[u8], size: u64, h: Hash)
     stage_put(t, s, p, path)
 }
 
+// The path is one, and the size is within its limit.
+fn stage_fits(path: &[u8], size: u64) -> bool
+    ensures { λ r. ⌜ r ≡ (isPath (now (path .entry)) && leb size sizeLimit) ⌝ }
+{
+    if !is_path(path) {
+        return false;
+    }
+    size <= 68719476736
+}
+
 pub(crate) fn stage_on(t: Tables, s: Session, path: &[u8], size: u64, h: Hash) -> SlotOutcome
     ensures { λ r. ⌜ r ≡ stageRule (now (path .entry)) size h t s ⌝ }
 {
-    if !is_path(path) {
-        return refuse_slot(t, s, BAD);
-    }
-    if 68719476736 < size {
+    if !stage_fits(path, size) {
         return refuse_slot(t, s, BAD);
     }
     let n = s.token;

@@ -1,11 +1,14 @@
 // Create, on the tables.
 ghost use mathlib.Core.Path.{_≡_};
-ghost use mathlib.Core.Bool.{true};
+ghost use mathlib.Core.Bool.{_&&_};
 ghost use Prim.Native.Nat.{_<_};
 ghost use lib.ListN.{take};
-ghost use Rattle.lists.specs.Lists.{hit};
-ghost use Rattle.text.specs.Text.{nameLimit, pathLimit};
+ghost use Rattle.lists.specs.Lists.{hit, find};
+ghost use Rattle.rules.specs.Tables.{freeVolume};
+ghost use Rattle.text.specs.Text.{pathLimit, isName};
 ghost use Rattle.rules.specs.VolumeCalls.{newVolume, createIn, createRule};
+ghost use Rattle.rules.specs.Scope.{capFits};
+ghost use Rattle.rules.specs.Sound.{shardsFit};
 use super::answers::accept;
 use super::answers::refuse;
 use amount::Cap;
@@ -56,16 +59,33 @@ fn store_volume(t: Tables, i: usize, v: Volume) -> TablesOutcome
     accept(v.no.0 as u64, next)
 }
 
+// The new volume takes the lowest free row.
+fn place_volume(t: Tables, v: Volume) -> TablesOutcome
+    ensures { λ r. ⌜ r ≡ createIn t v (find freeVolume (t .volumes)) ⌝ }
+{
+    let rows = t.volumes;
+    let Found::At(i) = free_volume(rows) else {
+        return refuse(t, ROOM);
+    };
+    store_volume(t, i, v)
+}
+
+fn create_fits(name: &[u8], k: u8, m: u8, cap: Cap) -> bool
+    ensures { λ r. ⌜ r ≡ (isName (now (name .entry)) && shardsFit k m && capFits cap) ⌝ }
+{
+    if !is_name(name) {
+        return false;
+    }
+    if !shards_fit(k, m) {
+        return false;
+    }
+    cap_fits(cap)
+}
+
 pub(crate) fn create_on(t: Tables, a: Account, name: &[u8], k: u8, m: u8, cap: Cap) -> TablesOutcome
     ensures { λ r. ⌜ r ≡ createRule a (now (name .entry)) k m cap t ⌝ }
 {
-    if !is_name(name) {
-        return refuse(t, BAD);
-    }
-    if !shards_fit(k, m) {
-        return refuse(t, BAD);
-    }
-    if !cap_fits(cap) {
+    if !create_fits(name, k, m, cap) {
         return refuse(t, BAD);
     }
     let rows = t.volumes;
@@ -76,9 +96,6 @@ pub(crate) fn create_on(t: Tables, a: Account, name: &[u8], k: u8, m: u8, cap: C
     if 65535 <= last {
         return refuse(t, SPENT);
     }
-    let Found::At(i) = free_volume(rows) else {
-        return refuse(t, ROOM);
-    };
     let v = make_volume(last + 1, a, name, k, m, cap);
-    store_volume(t, i, v)
+    place_volume(t, v)
 }

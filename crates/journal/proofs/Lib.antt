@@ -6,3 +6,4 @@ pub mod FrameLaws
 pub mod OverLaws
 pub mod SizeLaws
 pub mod WriteLaws
+pub mod PutLaws

@@ -7,6 +7,7 @@ use native.Mathlib.Omega.{arith}
 use lib.Dec.{leb, eqb}
 use lib.ListN.{length, take, drop, getD, length-append}
 use lib.Seq.{take-at, drop-cons, getD-take, length-take-le}
+use borrow.Author.Needs.{needs}
 use borrow.Author.Tests.{le-leb, lt-leb, eq-eqb, ne-eqb}
 use Rattle.amount.specs.declared.Cap.the-variants.{Unlimited, Bytes as Count}
 use Rattle.rules.specs.declared.Mode.{Mode}
@@ -107,6 +108,62 @@ mode-number (suc (suc (suc n))) h = absurd (omega arith)
 pub mode-bytes : (d : Fields) (t : List ℕ) → d .mode ≤ 2 → fieldBytes v01 its.Mode d t ≡ bytesOf 1 (d .mode)
 unfolding fieldBytes encode
 mode-bytes d t h = ap (bytesOf 1) (mode-number (d .mode) h)
+
+-- ---- the arms of the match on the field: f is the field that the arm names
+
+module _ (f : Field) (d : Fields) (t : List ℕ) where
+  arm : (g : Field) (k : ℕ) → f ≡ g → givable v01 g d t ≡ true → length (fieldBytes v01 g d t) ≡ k → Bytes k ≡ fieldSize v01 f d t
+  arm g k e a b = rw e (size-ok g d t k a b)
+
+  pub account-size : f ≡ its.Account → length (d .account) ≡ 32 → Bytes 32 ≡ fieldSize v01 f d t
+  account-size e h = arm its.Account 32 e refl (ap length (account-bytes d t) ∙ h)
+
+  pub hash-size : f ≡ its.Hash → length (d .hash) ≡ 32 → Bytes 32 ≡ fieldSize v01 f d t
+  hash-size e h = arm its.Hash 32 e refl (ap length (hash-bytes d t) ∙ h)
+
+  pub no-size : f ≡ its.No → Bytes 4 ≡ fieldSize v01 f d t
+  no-size e = arm its.No 4 e refl (ap length (no-bytes d t) ∙ length-bytesOf 4 (d .no))
+
+  pub slot-size : f ≡ its.Slot → Bytes 1 ≡ fieldSize v01 f d t
+  slot-size e = arm its.Slot 1 e refl (ap length (slot-bytes d t) ∙ length-bytesOf 1 (d .slot))
+
+  pub k-size : f ≡ its.K → Bytes 1 ≡ fieldSize v01 f d t
+  k-size e = arm its.K 1 e refl (ap length (k-bytes d t) ∙ length-bytesOf 1 (d .k))
+
+  pub m-size : f ≡ its.M → Bytes 1 ≡ fieldSize v01 f d t
+  m-size e = arm its.M 1 e refl (ap length (m-bytes d t) ∙ length-bytesOf 1 (d .m))
+
+  pub amount-size : f ≡ its.Amount → Bytes 8 ≡ fieldSize v01 f d t
+  amount-size e = arm its.Amount 8 e refl (ap length (amount-bytes d t) ∙ length-bytesOf 8 (d .amount))
+
+  pub from-size : f ≡ its.From → Bytes 8 ≡ fieldSize v01 f d t
+  from-size e = arm its.From 8 e refl (ap length (from-bytes d t) ∙ length-bytesOf 8 (d .«from»))
+
+  pub until-size : f ≡ its.Until → Bytes 8 ≡ fieldSize v01 f d t
+  until-size e = arm its.Until 8 e refl (ap length (until-bytes d t) ∙ length-bytesOf 8 (d .until))
+
+  pub none-size : f ≡ its.None → Bytes 0 ≡ fieldSize v01 f d t
+  none-size e = arm its.None 0 e refl (ap length (none-bytes d t))
+
+  pub mode-size : f ≡ its.Mode → d .mode ≤ 2 → Bytes 1 ≡ fieldSize v01 f d t
+  mode-size e h = arm its.Mode 1 e (le-leb (d .mode) 2 h) (ap length (mode-bytes d t h) ∙ length-bytesOf 1 (d .mode))
+
+  pub text-size : f ≡ its.Text → length t ≤ 255 → Bytes (1 + length t) ≡ fieldSize v01 f d t
+  text-size e h =
+      arm its.Text (1 + length t) e (le-leb (length t) 255 h)
+      (ap length (text-bytes d t) ∙ length-append (bytesOf 1 (length t)) t ∙ rw (length-bytesOf 1 (length t)))
+
+  pub cap-size : (k : ℕ) → f ≡ its.Cap → k ≡ length (capBytes (d .cap)) → Bytes k ≡ fieldSize v01 f d t
+  cap-size k e h = arm its.Cap k e refl (ap length (cap-bytes d t) ∙ sym h)
+
+  pub mode-bad : f ≡ its.Mode → 2 < d .mode → Bad ≡ fieldSize v01 f d t
+  mode-bad e h = rw e (size-no its.Mode d t (lt-leb (d .mode) 2 h))
+
+  pub text-bad : f ≡ its.Text → 255 < length t → Bad ≡ fieldSize v01 f d t
+  text-bad e h = rw e (size-no its.Text d t (lt-leb (length t) 255 h))
+
+pub ruleset arms =
+    (account-size, hash-size, no-size, slot-size, k-size, m-size, amount-size, from-size, until-size, none-size, mode-size, text-size, cap-size, mode-bad, text-bad, needs)
 
 -- ---- the size of a list of fields
 

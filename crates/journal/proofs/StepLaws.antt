@@ -9,7 +9,7 @@ use lib.Dec.{eqb, leb, ltb}
 use lib.Pow.{areBytes}
 use lib.ListN.{length, take, drop, length-append, length-drop}
 use lib.Seq.{length-take-le, drop-drop}
-use borrow.Author.Tests.{eq-eqb, ne-eqb, le-leb, lt-leb, leb-true, leb-false}
+use borrow.Author.Tests.{eq-eqb, ne-eqb, le-leb, lt-leb, leb-true, leb-false, ltb-true}
 use Rattle.amount.specs.declared.Cap.{Cap}
 use Rattle.amount.specs.declared.Cap.the-variants.{Unlimited, Bytes}
 use Rattle.rules.specs.declared.Mode.{Mode}
@@ -187,3 +187,17 @@ unfolding decode encode
 none-step at r l =
     let z : at ≡ at + 0 = omega arith in
     ap (λ (k : ℕ). Next r k) z ∙ step-found its.None at r l [] l 0 (part-some 0 l (omega arith)) refl
+
+-- the arms of the match on the field: f is the field that the arm names, and s what the arm's function returned
+module _ (f : Field) (at : ℕ) (r : Record) (l : List ℕ) where
+  pub by-number : (g : Field) (s : Step) → f ≡ g → ltb 0 (widthOf g) ≡ true → s ≡ stepNumber f at r (decodeNumber (widthOf f) l)
+      → s ≡ stepTo v01 f at r (decode (formatOf v01 f) l)
+  by-number g s e w h = h ∙ number-field f at r l (rw e (ltb-true 0 (widthOf g) w))
+
+  pub by-arm : (g : Field) (s : Step) → f ≡ g → s ≡ stepTo v01 g at r (decode (formatOf v01 g) l) → s ≡ stepTo v01 f at r (decode (formatOf v01 f) l)
+  by-arm g s e h = rw e h
+
+  pub none-arm : f ≡ its.None → Next r at ≡ stepTo v01 f at r (decode (formatOf v01 f) l)
+  none-arm e = rw e (none-step at r l)
+
+pub ruleset steps = (by-number, by-arm, none-arm)

@@ -8,3 +8,5 @@ pub mod SumLaws
 pub mod ModifyLaws
 pub mod BitLaws
 pub mod ByteLaws
+pub mod AnswerLaws
+pub mod LoopLaws

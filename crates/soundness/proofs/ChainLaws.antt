@@ -1,10 +1,14 @@
--- A chain of parents followed one number at a time.
-use mathlib.Core.Path.{_≡_, refl}
+-- A chain of parents followed one number at a time, and the loop that does so. Assumes nothing.
+use mathlib.Core.Path.{_≡_, refl, sym, _∙_}
 use mathlib.Core.List.{List, []}
-use Prim.Native.Nat.{ℕ, zero, suc, _+_}
+use Prim.Native.Nat.{ℕ, zero, suc, _+_, _-_, _<_, _≤_}
 use native.Mathlib.Omega.{arith}
-use lib.ListN.{length}
-use Rattle.lists.specs.Lists.{Hit, miss, hit, find}
+use lib.ListN.{length, getD}
+use Rattle.lists.specs.declared.Found.{Found}
+use Rattle.lists.specs.declared.Found.the-variants.{At, Nothing}
+use Rattle.lists.specs.Lists.{Hit, miss, hit, find, firstAt}
+use Rattle.lists.specs.SearchLaws.{first-row, first-miss}
+use Rattle.lists.specs.AnswerLaws.{in-table}
 use Rattle.rules.specs.declared.TokenNo.{TokenNo}
 use Rattle.rules.specs.declared.Token.{Token}
 use Rattle.rules.specs.Tables.{isToken}
@@ -38,3 +42,33 @@ module _ (ts : List Token) where
   pub above-end : (n : ℕ) → above ts 0 n ≡ 0
   unfolding above
   above-end n = none-left (find (isToken (numbered n)) ts)
+
+-- n tokens were counted, and p is the parent of the last: with those from p on they are the chain that goes on from s
+pub record DepthLoop (ts : List Token) (s n p : ℕ) : Type 0 where
+  pub size : length ts ≡ 32
+  pub few : n ≤ 9
+  pub rest : 1 + above ts 8 s ≡ n + above ts (9 - n) p
+
+module _ (ts : List Token) where
+  pub depth-start : (s : ℕ) → length ts ≡ 32 → DepthLoop ts s 1 s
+  depth-start s e = record { size = e; few = omega arith; rest = refl }
+
+  pub depth-end : (k : Token) (n p : ℕ) → DepthLoop ts (k .parent .0) n p → 9 ≤ n → n ≡ depth ts k
+  depth-end k n p h w =
+      let q : n ≡ 9 = omega (arith, h .few) in
+      let r = rw q at (h .rest) in
+      rw (depth-above ts k, q) (omega (arith, r, above-end ts p))
+
+  module _ (f : Found) (n p : ℕ) (e : f ≡ firstAt (isToken (numbered p)) 0 ts) where
+    pub depth-stop : (k : Token) → DepthLoop ts (k .parent .0) n p → f ≡ Nothing → n ≡ depth ts k
+    depth-stop k h w =
+        rw (depth-above ts k) (omega (arith, h .rest, above-none ts (9 - n) p (first-miss (isToken (numbered p)) ts (sym e ∙ w))))
+
+    pub depth-step : (s i : ℕ) (d : Token) → DepthLoop ts s n p → n < 9 → f ≡ At i → DepthLoop ts s (n + 1) (getD ts i d .parent .0)
+    depth-step s i d h k w =
+        let x = above-step ts (9 - (n + 1)) p i (getD ts i d) (first-row (isToken (numbered p)) ts i (sym e ∙ w) d) in
+        let q : 9 - n ≡ suc (9 - (n + 1)) = omega arith in
+        let r = rw q at (h .rest) in
+        record { size = h .size; few = omega arith; rest = omega (arith, r, x) }
+
+pub ruleset depths = (depth-stop, depth-step, depth-end, depth-start, in-table)

@@ -1,9 +1,12 @@
 // The token table, row by row and against itself.
 ghost use mathlib.Core.Path.{_≡_};
+ghost use mathlib.Core.Bool.{_&&_};
+ghost use lib.Dec.{leb};
 ghost use Rattle.lists.specs.Lists.{allOf, noClash};
 ghost use Rattle.rules.specs.declared.Tables.{Tables};
-ghost use Rattle.rules.specs.Scope.{depth};
-ghost use Rattle.rules.specs.Sound.{parentThere, soundToken, soundTokens, sameToken};
+ghost use Rattle.text.specs.Text.{holds, isPrefix};
+ghost use Rattle.rules.specs.Scope.{capFits, depth};
+ghost use Rattle.rules.specs.Sound.{isGiven, parentThere, soundToken, soundTokens, sameToken};
 use lists::Found;
 use rows::any_token;
 use rows::any_volume;
@@ -44,12 +47,10 @@ fn parent_there(rows: [Token; 32], k: Token) -> bool
     any_token(rows, n, 0)
 }
 
-fn sound_token(k: Token, volumes: [Volume; 8], rows: [Token; 32], last: u32) -> bool
-    ensures { λ r. ⌜ ((t : Tables) → t .volumes ≡ volumes → t .tokens ≡ rows → t .«last_token» ≡ last → r ≡ soundToken t k) ⌝ }
+// What needs no row of a table: the number, the prefix, the cap and the window.
+fn token_fits(k: Token, last: u32) -> bool
+    ensures { λ r. ⌜ r ≡ (isGiven last (k .no .0) && holds isPrefix (k .scope .prefix) && capFits (k .scope .cap) && leb (k .scope .«from») (k .scope .until)) ⌝ }
 {
-    if k.no.0 == 0 {
-        return true;
-    }
     if !is_given(last, k.no.0) {
         return false;
     }
@@ -62,7 +63,16 @@ fn sound_token(k: Token, volumes: [Volume; 8], rows: [Token; 32], last: u32) -> 
     if !cap_fits(cap) {
         return false;
     }
-    if scope.until < scope.from {
+    scope.from <= scope.until
+}
+
+fn sound_token(k: Token, volumes: [Volume; 8], rows: [Token; 32], last: u32) -> bool
+    ensures { λ r. ⌜ ((t : Tables) → t .volumes ≡ volumes → t .tokens ≡ rows → t .«last_token» ≡ last → r ≡ soundToken t k) ⌝ }
+{
+    if k.no.0 == 0 {
+        return true;
+    }
+    if !token_fits(k, last) {
         return false;
     }
     let volume = k.volume;

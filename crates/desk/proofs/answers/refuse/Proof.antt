@@ -2,11 +2,9 @@ use borrow.Author.Needs.{needs}
 use Rattle.desk.proofs.answers.refuse.Statement.{statement}
 use Rattle.desk.proofs.answers.refuse.Tie as tie
 
-refusal-requires : tie.Need-refusal-requires
-refusal-requires c κs = search needs
-
-returns : tie.Need-returns
-returns c = rw (c .refusal .ensures)
-
 pub refuse-spec : {M : Type 1} → statement M
-refuse-spec = tie.close (tie.spec refusal-requires returns)
+refuse-spec =
+    tie.close
+    (tie.spec
+    (λ c κs. search needs)
+    (λ c. rw (c .refusal .ensures)))

@@ -1,21 +1,6 @@
-use mathlib.Core.Path.{ap}
-use Rattle.rules.specs.Scope.{capFits}
-use mathlib.Core.Path.{sym}
 use borrow.Author.Needs.{needs}
 use Rattle.rows.proofs.scope.cap_fits.Statement.{statement}
 use Rattle.rows.proofs.scope.cap_fits.Tie as tie
 
-enum-told : tie.Need-enum-told
-enum-told c = search needs
-
-enum-known-c : tie.Need-enum-known-c
-enum-known-c c = search needs
-
-returns : tie.Need-returns
-returns c = search needs
-
-returns-2 : tie.Need-returns-2
-returns-2 c = sym (ap capFits (c .before .c .given .1))
-
 pub cap-fits-spec : {M : Type 1} → statement M
-cap-fits-spec = tie.close (tie.spec enum-told enum-known-c returns returns-2)
+cap-fits-spec = tie.close (tie.spec (λ c. search needs) (λ c. search needs) (λ c. search needs) (λ c. cc))

@@ -1,79 +1,23 @@
--- Every put passes: the invariant says that the test of the staged puts is the test of those from i on.
-use borrow.Author.Needs.{needs}
-use borrow.Author.Tests.{not-true, not-false}
-use native.Mathlib.Omega.{arith}
-use mathlib.Core.Path.{_≡_, refl, sym, _∙_}
-use Prim.Native.Nat.{_-_, _<_, min}
-use lib.ListN.{length, drop, take, length-take}
-use lib.Seq.{getD-take}
-use Rattle.lists.specs.Lists.{allOf}
-use Rattle.lists.specs.TestLaws.{all-fails, all-on, all-end}
-use Rattle.lists.specs.RowLaws.{rows-length}
+use Prim.Native.Nat.{_-_}
+use lib.ListN.{take}
 use Rattle.rules.specs.Sound.{soundPut}
-use Rattle.rows.specs.Blank.{blankPut}
+use Rattle.lists.specs.LoopLaws.{AllLoop, alls-part}
 use Rattle.soundness.proofs.sessions.all_puts.Statement.{statement}
 use Rattle.soundness.proofs.sessions.all_puts.Tie as tie
-
-abbrev Inv-loop : tie.InvT-loop
-Inv-loop count rows n i₀ i = (length rows ≡ 8) × (n ≡ min count 8) × (allOf soundPut (take count rows) ≡ allOf soundPut (drop i (take count rows)))
-
-abbrev μ-loop : tie.MeasureT-loop
-μ-loop count rows n i₀ i = 8 - i
-
-least-requires : tie.Need-least-requires Inv-loop μ-loop
-least-requires c κs = search needs
-
-loop-holds : tie.Need-loop-holds Inv-loop μ-loop
-loop-holds c = (search (rows-length, needs), c .least .ensures, refl)
-
-mul-p : tie.Need-mul-p Inv-loop μ-loop
-mul-p c = omega arith
-
-array-copy-out-p : tie.Need-array-copy-out-p Inv-loop μ-loop
-array-copy-out-p c = omega arith
-
-sound-put-requires : tie.Need-sound-put-requires Inv-loop μ-loop
-sound-put-requires c κs = search needs
-
-returns : tie.Need-returns Inv-loop μ-loop
-returns c =
-    let h = c .before .before .before .before .loop .inv in
-    let q = length-take (c .before .before .before .before .before .before .args .count) (c .before .before .before .before .before .before .args .t1) in
-    let w : c .before .before .before .before .loop .i < c .before .before .before .before .before .before .args .count = omega arith in
-    sym (h .2 ∙ all-fails soundPut (take (c .before .before .before .before .before .before .args .count) (c .before .before .before .before .before .before .args .t1)) blankPut (c .before .before .before .before .loop .i) (omega arith) (rw (getD-take (c .before .before .before .before .before .before .args .count) (c .before .before .before .before .before .before .args .t1) (c .before .before .before .before .loop .i) blankPut w) (c .before .sound-put .ensures)) (not-true (c .before .sound-put .result) (c .if1 .taken)))
-
-add-i : tie.Need-add-i Inv-loop μ-loop
-add-i c = omega arith
-
-loop-less : tie.Need-loop-less Inv-loop μ-loop
-loop-less c = omega arith
-
-loop-again : tie.Need-loop-again Inv-loop μ-loop
-loop-again c =
-    let h = c .before .before .before .before .loop .inv in
-    let q = length-take (c .before .before .before .before .before .before .args .count) (c .before .before .before .before .before .before .args .t1) in
-    let w : c .before .before .before .before .loop .i < c .before .before .before .before .before .before .args .count = omega arith in
-    (h .0, h .1, h .2 ∙ all-on soundPut (take (c .before .before .before .before .before .before .args .count) (c .before .before .before .before .before .before .args .t1)) blankPut (c .before .before .before .before .loop .i) (omega arith) (rw (getD-take (c .before .before .before .before .before .before .args .count) (c .before .before .before .before .before .before .args .t1) (c .before .before .before .before .loop .i) blankPut w) (c .before .sound-put .ensures)) (not-false (c .before .sound-put .result) (c .if1 .left)))
-
-returns-2 : tie.Need-returns-2 Inv-loop μ-loop
-returns-2 c =
-    let h = c .before .loop .inv in
-    let q = length-take (c .before .before .before .args .count) (c .before .before .before .args .t1) in
-    sym (h .2 ∙ all-end soundPut (take (c .before .before .before .args .count) (c .before .before .before .args .t1)) (c .before .loop .i) (omega arith))
 
 pub all-puts-spec : {M : Type 1} → statement M
 all-puts-spec =
     tie.close
     (tie.spec
-    Inv-loop
-    μ-loop
-    least-requires
-    loop-holds
-    mul-p
-    array-copy-out-p
-    sound-put-requires
-    returns
-    add-i
-    loop-less
-    loop-again
-    returns-2)
+    (λ count rows n i₀ i. AllLoop soundPut (take count rows) n i)
+    (λ count rows n i₀ i. 8 - i)
+    (λ c κs. search alls-part)
+    (λ c. search alls-part)
+    (λ c. search alls-part)
+    (λ c. search alls-part)
+    (λ c κs. search alls-part)
+    (λ c. search alls-part)
+    (λ c. search alls-part)
+    (λ c. search alls-part)
+    (λ c. search alls-part)
+    (λ c. search alls-part))

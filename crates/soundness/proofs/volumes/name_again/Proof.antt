@@ -1,68 +1,21 @@
--- Some row from the index on: the invariant says that the test of those rows is the test of the rows from i on.
-use borrow.Author.Needs.{needs}
-use native.Mathlib.Omega.{arith}
-use mathlib.Core.Path.{_≡_, refl, sym, _∙_}
 use Prim.Native.Nat.{_-_}
-use lib.ListN.{length, drop}
-use Rattle.lists.specs.Lists.{anyOf}
-use Rattle.lists.specs.TestLaws.{any-here, any-on, any-end}
-use Rattle.lists.specs.RowLaws.{rows-length}
 use Rattle.rules.specs.Sound.{sameName}
-use Rattle.rows.specs.Blank.{blankVolume}
+use Rattle.lists.specs.LoopLaws.{AnyLoop, anys}
 use Rattle.soundness.proofs.volumes.name_again.Statement.{statement}
 use Rattle.soundness.proofs.volumes.name_again.Tie as tie
-
-abbrev Inv-loop : tie.InvT-loop
-Inv-loop a start rows i₀ i = (length rows ≡ 8) × (anyOf (sameName a) (drop start rows) ≡ anyOf (sameName a) (drop i rows))
-
-abbrev μ-loop : tie.MeasureT-loop
-μ-loop a start rows i₀ i = 8 - i
-
-loop-holds : tie.Need-loop-holds Inv-loop μ-loop
-loop-holds c = (search (rows-length, needs), refl)
-
-mul-b : tie.Need-mul-b Inv-loop μ-loop
-mul-b c = omega arith
-
-array-copy-out-b : tie.Need-array-copy-out-b Inv-loop μ-loop
-array-copy-out-b c = omega arith
-
-same-name-requires : tie.Need-same-name-requires Inv-loop μ-loop
-same-name-requires c κs = search needs
-
-returns : tie.Need-returns Inv-loop μ-loop
-returns c =
-    let h = c .before .before .before .before .loop .inv in
-    sym (h .1 ∙ any-here (sameName (c .before .before .before .before .before .args .a)) (c .before .before .before .before .before .args .t1) blankVolume (c .before .before .before .before .loop .i) (omega arith) (c .before .same-name .ensures) (c .if1 .taken))
-
-add-i : tie.Need-add-i Inv-loop μ-loop
-add-i c = omega arith
-
-loop-less : tie.Need-loop-less Inv-loop μ-loop
-loop-less c = omega arith
-
-loop-again : tie.Need-loop-again Inv-loop μ-loop
-loop-again c =
-    let h = c .before .before .before .before .loop .inv in
-    (h .0, h .1 ∙ any-on (sameName (c .before .before .before .before .before .args .a)) (c .before .before .before .before .before .args .t1) blankVolume (c .before .before .before .before .loop .i) (omega arith) (c .before .same-name .ensures) (c .if1 .left))
-
-returns-2 : tie.Need-returns-2 Inv-loop μ-loop
-returns-2 c =
-    let h = c .before .loop .inv in
-    sym (h .1 ∙ any-end (sameName (c .before .before .args .a)) (c .before .before .args .t1) (c .before .loop .i) (omega arith))
 
 pub name-again-spec : {M : Type 1} → statement M
 name-again-spec =
     tie.close
     (tie.spec
-    Inv-loop
-    μ-loop
-    loop-holds
-    mul-b
-    array-copy-out-b
-    same-name-requires
-    returns
-    add-i
-    loop-less
-    loop-again
-    returns-2)
+    (λ a start rows i₀ i. AnyLoop (sameName a) rows start 8 i)
+    (λ a start rows i₀ i. 8 - i)
+    (λ c. search anys)
+    (λ c. search anys)
+    (λ c. search anys)
+    (λ c κs. search anys)
+    (λ c. search anys)
+    (λ c. search anys)
+    (λ c. search anys)
+    (λ c. search anys)
+    (λ c. search anys))

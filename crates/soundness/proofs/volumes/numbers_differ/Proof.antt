@@ -1,72 +1,23 @@
--- No row clashes with a later one: the invariant says that the test of the table is the test of the rows from i on.
-use borrow.Author.Needs.{needs}
-use native.Mathlib.Omega.{arith}
-use mathlib.Core.Path.{_≡_, refl, sym, _∙_}
 use Prim.Native.Nat.{_-_}
-use lib.ListN.{length, drop}
-use Rattle.lists.specs.Lists.{noClash}
-use Rattle.lists.specs.TestLaws.{clash-here, clash-on, clash-end}
-use Rattle.lists.specs.RowLaws.{rows-length}
 use Rattle.rules.specs.Sound.{sameVolume}
 use Rattle.rows.specs.Blank.{blankVolume}
+use Rattle.lists.specs.LoopLaws.{ClashLoop, clashes, clash-found, clash-step}
 use Rattle.soundness.proofs.volumes.numbers_differ.Statement.{statement}
 use Rattle.soundness.proofs.volumes.numbers_differ.Tie as tie
-
-abbrev Inv-loop : tie.InvT-loop
-Inv-loop rows i₀ i = (length rows ≡ 8) × (noClash sameVolume rows ≡ noClash sameVolume (drop i rows))
-
-abbrev μ-loop : tie.MeasureT-loop
-μ-loop rows i₀ i = 8 - i
-
-loop-holds : tie.Need-loop-holds Inv-loop μ-loop
-loop-holds c = (search (rows-length, needs), refl)
-
-mul-v : tie.Need-mul-v Inv-loop μ-loop
-mul-v c = omega arith
-
-array-copy-out-v : tie.Need-array-copy-out-v Inv-loop μ-loop
-array-copy-out-v c = omega arith
-
-add-any-volume : tie.Need-add-any-volume Inv-loop μ-loop
-add-any-volume c = omega arith
-
-any-volume-requires : tie.Need-any-volume-requires Inv-loop μ-loop
-any-volume-requires c κs = search needs
-
-returns : tie.Need-returns Inv-loop μ-loop
-returns c =
-    let h = c .before .before .before .before .before .loop .inv in
-    sym (h .1 ∙ clash-here sameVolume (c .before .before .before .before .before .before .args .t1) blankVolume (c .before .before .before .before .before .loop .i) (omega arith) (c .before .any-volume .ensures) (c .if1 .taken))
-
-add-i : tie.Need-add-i Inv-loop μ-loop
-add-i c = omega arith
-
-loop-less : tie.Need-loop-less Inv-loop μ-loop
-loop-less c = omega arith
-
-loop-again : tie.Need-loop-again Inv-loop μ-loop
-loop-again c =
-    let h = c .before .before .before .before .before .loop .inv in
-    (h .0, h .1 ∙ clash-on sameVolume (c .before .before .before .before .before .before .args .t1) blankVolume (c .before .before .before .before .before .loop .i) (omega arith) (c .before .any-volume .ensures) (c .if1 .left))
-
-returns-2 : tie.Need-returns-2 Inv-loop μ-loop
-returns-2 c =
-    let h = c .before .loop .inv in
-    sym (h .1 ∙ clash-end sameVolume (c .before .before .args .t1) (c .before .loop .i) (omega arith))
 
 pub numbers-differ-spec : {M : Type 1} → statement M
 numbers-differ-spec =
     tie.close
     (tie.spec
-    Inv-loop
-    μ-loop
-    loop-holds
-    mul-v
-    array-copy-out-v
-    add-any-volume
-    any-volume-requires
-    returns
-    add-i
-    loop-less
-    loop-again
-    returns-2)
+    (λ rows i₀ i. ClashLoop sameVolume rows 8 i)
+    (λ rows i₀ i. 8 - i)
+    (λ c. search clashes)
+    (λ c. search clashes)
+    (λ c. search clashes)
+    (λ c. search clashes)
+    (λ c κs. search clashes)
+    (λ c. search (clash-found blankVolume, clashes))
+    (λ c. search clashes)
+    (λ c. search clashes)
+    (λ c. search (clash-step blankVolume, clashes))
+    (λ c. search clashes))

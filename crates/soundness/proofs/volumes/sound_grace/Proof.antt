@@ -1,28 +1,16 @@
+use Rattle.lists.specs.AnswerLaws.{refused, passed}
 use borrow.Author.Needs.{needs}
-use borrow.Author.Tests.{le-leb, lt-leb}
 use Rattle.soundness.proofs.volumes.sound_grace.Statement.{statement}
 use Rattle.soundness.proofs.volumes.sound_grace.Tie as tie
 
-enum-told : tie.Need-enum-told
-enum-told c = search needs
-
-enum-told-2 : tie.Need-enum-told-2
-enum-told-2 c = search needs
-
-returns : tie.Need-returns
-returns c = rw (c .before .enum-told2 .given .1, lt-leb _ _ (c .if1 .taken))
-
-enum-told-3 : tie.Need-enum-told-3
-enum-told-3 c = search needs
-
-returns-2 : tie.Need-returns-2
-returns-2 c = rw (c .enum-told .given .1)
-
-returns-3 : tie.Need-returns-3
-returns-3 c = rw (c .before .enum-told2 .given .1, le-leb _ _ (c .if1 .left))
-
-returns-4 : tie.Need-returns-4
-returns-4 c = rw (c .enum-told3 .given .1)
-
 pub sound-grace-spec : {M : Type 1} → statement M
-sound-grace-spec = tie.close (tie.spec enum-told enum-told-2 returns enum-told-3 returns-2 returns-3 returns-4)
+sound-grace-spec =
+    tie.close
+    (tie.spec
+    (λ c. search needs)
+    (λ c. search needs)
+    (λ c. rw (c .before .enum-told2 .given .1) (search refused))
+    (λ c. search needs)
+    (λ c. cc)
+    (λ c. rw (c .before .enum-told2 .given .1) (search passed))
+    (λ c. cc))

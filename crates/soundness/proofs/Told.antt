@@ -1,0 +1,71 @@
+-- What a test of one row says of the tables that it was handed parts of. Assumes nothing.
+use mathlib.Core.Path.{_≡_, refl, sym, _∙_}
+use mathlib.Core.Bool.{Bool, false, not, _&&_}
+use mathlib.Core.List.{List}
+use Prim.Native.Nat.{ℕ, _≤_}
+use borrow.Author.Tests.{ne-eqb, le-leb, not-false}
+use lib.Dec.{leb}
+use lib.ListN.{getD}
+use Rattle.text.specs.Text.{holds, isPrefix}
+use Rattle.rules.specs.Limits.{deepest, usedLimit}
+use Rattle.rules.specs.Scope.{capFits, depth}
+use Rattle.lists.specs.declared.Found.{Found}
+use Rattle.lists.specs.declared.Found.the-variants.{At, Nothing}
+use Rattle.lists.specs.Lists.{Hit, firstAt, find, allOf, anyOf}
+use Rattle.lists.specs.SearchLaws.{first-row, first-miss}
+use Rattle.rules.specs.declared.RelayNo.{RelayNo}
+use Rattle.rules.specs.declared.VolumeNo.{VolumeNo}
+use Rattle.rules.specs.Tables.{isVolume}
+use Rattle.rows.specs.Blank.{blankVolume}
+use Rattle.rules.specs.declared.Placement.{Placement}
+use Rattle.rules.specs.declared.Volume.{Volume}
+use Rattle.rules.specs.declared.Token.{Token}
+use Rattle.rules.specs.declared.Entry.{Entry}
+use Rattle.rules.specs.declared.Session.{Session}
+use Rattle.rules.specs.declared.Tables.{Tables}
+use Rattle.rules.specs.Sound.{soundVolume, soundToken, soundEntry, soundSession, soundIn, parentThere, relayGiven, soundPlacement, isGiven, volumeThere}
+
+module _ (t : Tables) (b : Bool) where
+  pub volume-told : (v : Volume) → ((u : Tables) → u .«last_volume» ≡ t .«last_volume» → u .clock ≡ t .clock → b ≡ soundVolume u v) → b ≡ soundVolume t v
+  volume-told v f = f t refl refl
+
+  pub token-told : (k : Token)
+      → ((u : Tables) → u .volumes ≡ t .volumes → u .tokens ≡ t .tokens → u .«last_token» ≡ t .«last_token» → b ≡ soundToken u k) → b ≡ soundToken t k
+  token-told k f = f t refl refl refl
+
+  pub entry-told : (e : Entry) → ((u : Tables) → u .volumes ≡ t .volumes → u .«last_relay» ≡ t .«last_relay» → b ≡ soundEntry u e) → b ≡ soundEntry t e
+  entry-told e f = f t refl refl
+
+  pub session-told : (s : Session)
+      → ((u : Tables) → u .«last_token» ≡ t .«last_token» → u .«last_volume» ≡ t .«last_volume» → b ≡ soundSession u s) → b ≡ soundSession t s
+  session-told s f = f t refl refl
+
+  pub in-told : (p : Placement) (h : Hit Volume) (last : ℕ) → ((u : Tables) → u .«last_relay» ≡ last → b ≡ soundIn u p h) → t .«last_relay» ≡ last → b ≡ soundIn t p h
+  in-told p h last f e = f t e
+
+  pub parent-told : (k : Token) (rows : List Token) → ((u : Tables) → u .tokens ≡ rows → b ≡ parentThere u k) → t .tokens ≡ rows → b ≡ parentThere t k
+  parent-told k rows f e = f t e
+
+  pub relays-told : (l : List RelayNo) (last : ℕ) → ((u : Tables) → u .«last_relay» ≡ last → b ≡ allOf (relayGiven u) l) → t .«last_relay» ≡ last → b ≡ allOf (relayGiven t) l
+  relays-told l last f e = f t e
+
+-- an entry's placement, where the search for its volume found none, or the one at i
+module _ (t : Tables) (p : Placement) (n : VolumeNo) (vs : List Volume) (f : Found) (e : f ≡ firstAt (isVolume n) 0 vs) where
+  pub placed-none : f ≡ Nothing → false ≡ soundIn t p (find (isVolume n) vs)
+  unfolding soundIn
+  placed-none w = sym (rw (first-miss (isVolume n) vs (sym e ∙ w)))
+
+  pub placed-at : (i : ℕ) (b : Bool) (last : ℕ) → f ≡ At i → ((u : Tables) → u .«last_relay» ≡ last → b ≡ soundPlacement u (getD vs i blankVolume) p)
+      → t .«last_relay» ≡ last → b ≡ soundIn t p (find (isVolume n) vs)
+  unfolding soundIn
+  placed-at i b last w g h = g t h ∙ sym (rw (first-row (isVolume n) vs i (sym e ∙ w) blankVolume))
+
+-- the last return of a token's test: all parts but the last hold
+pub token-passed : (t : Tables) (k : Token) (x fits there parent : Bool) (vs : List Volume) (rows : List Token) (last n : ℕ) → (k .no .0 ≡ 0 → ⊥)
+    → t .volumes ≡ vs → t .tokens ≡ rows → t .«last_token» ≡ last
+    → fits ≡ (isGiven last (k .no .0) && holds isPrefix (k .scope .prefix) && capFits (k .scope .cap) && leb (k .scope .«from») (k .scope .until)) → not fits ≡ false
+    → there ≡ anyOf (isVolume (k .volume)) vs → not there ≡ false → not parent ≡ false → parent ≡ parentThere t k → n ≡ depth rows k → n ≤ deepest
+    → x ≡ leb (k .used) usedLimit → x ≡ soundToken t k
+unfolding soundToken volumeThere
+token-passed t k x fits there parent vs rows last n used e f g a a′ b b′ p′ p d d′ w =
+    rw (ne-eqb (k .no .0) 0 used, ← p, not-false parent p′, e, f, g, ← a, not-false fits a′, ← b, not-false there b′, ← d, le-leb n deepest d′) w
