@@ -5,6 +5,7 @@ use Prim.Native.Nat.{ℕ, zero, suc, _+_, _-_, _/_, _%_, _<_, _≤_}
 use native.Mathlib.Omega.{arith}
 use lib.ListN.{length, take, drop, set, length-append, length-drop, take-append-drop}
 use lib.Seq.{append-snoc, take-set-le, set-split, drop-at, take-at, drop-drop, length-take-le, take-length, paste}
+use Rattle.lists.specs.ByteLoopLaws.{FillLoop, fill-end}
 use Rattle.journal.specs.Numbers.{bytesOf}
 use Rattle.journal.specs.NumberLaws.{length-bytesOf}
 use Rattle.journal.specs.Writes.{over}
@@ -61,6 +62,10 @@ number-turn at j n buf h =
 -- a whole copy
 pub over-paste : (at : ℕ) (s buf : List ℕ) → paste buf at s (length s) ≡ over at s buf
 over-paste at s buf = ap (λ (m : List ℕ). take at buf ++ m ++ drop (at + length s) buf) (take-length s)
+
+-- the end of a loop that copies all of s
+pub filled-over : (at : ℕ) (s buf : List ℕ) (i : ℕ) (out : List ℕ) → FillLoop buf at s (length s) i out → length s ≤ i → out ≡ over at s buf
+filled-over at s buf i out h k = fill-end buf at s (length s) i out h k ∙ over-paste at s buf
 
 -- two pieces, the first of w bytes
 pub over-pair : (at w : ℕ) (a b buf : List ℕ) → length a ≡ w → at + w ≤ length buf → over (at + w) b (over at a buf) ≡ over at (a ++ b) buf

@@ -1,6 +1,6 @@
 -- Laws of sameBytes and startsWith: one step of a loop and its end, and what they say of the lists. Assumes nothing.
 use mathlib.Core.Path.{_≡_, refl, ap, ap₂, sym, _∙_}
-use mathlib.Core.Bool.{true, false, false≢true}
+use mathlib.Core.Bool.{Bool, true, false, false≢true}
 use mathlib.Core.List.{List, [], _∷_, _++_}
 use Prim.Native.Nat.{ℕ, _+_, _<_, _≤_}
 use native.Mathlib.Numerals.{add-one}
@@ -68,16 +68,23 @@ starts-through a b c e f =
 pub starts-short : (a b : List ℕ) → length b < length a → startsWith a b ≡ false
 starts-short a b h = not-pass (startsWith a b) (λ e. omega (arith, starts-length a b e))
 
+-- of lists of one length, to be the same is to begin with the other
+pub same-starts : (a b : List ℕ) → length a ≡ length b → startsWith a b ≡ sameBytes a b
+unfolding sameBytes startsWith
+same-starts [] [] e = refl
+same-starts [] (y ∷ ys) e = absurd (omega arith)
+same-starts (x ∷ xs) [] e = absurd (omega arith)
+same-starts (x ∷ xs) (y ∷ ys) e = rw (same-starts xs ys (omega arith))
+
+-- what a function that compares two lists answers: r is what it was told of the second's beginning
+pub other-lengths : (a b : List ℕ) → (length a ≡ length b → ⊥) → false ≡ sameBytes a b
+other-lengths a b n = sym (same-other a b n)
+
+pub same-told : (r : Bool) (a b : List ℕ) → length a ≡ length b → r ≡ startsWith a b → r ≡ sameBytes a b
+same-told r a b h e = e ∙ same-starts a b h
+
 -- one step of a loop over two lists of bytes, and its end
 module _ (a b : List ℕ) (i : ℕ) (ha : i < length a) (hb : i < length b) where
-  pub same-differ : (getD a i 0 ≡ getD b i 0 → ⊥) → sameBytes (drop i a) (drop i b) ≡ false
-  unfolding sameBytes
-  same-differ n = rw (drop-cons a i 0, drop-cons b i 0, ne-eqb (getD a i 0) (getD b i 0) n)
-
-  pub same-on : getD a i 0 ≡ getD b i 0 → sameBytes (drop i a) (drop i b) ≡ sameBytes (drop (i + 1) a) (drop (i + 1) b)
-  unfolding sameBytes
-  same-on e = rw (add-one, drop-cons a i 0, drop-cons b i 0, eq-eqb (getD a i 0) (getD b i 0) e)
-
   pub starts-differ : (getD a i 0 ≡ getD b i 0 → ⊥) → startsWith (drop i a) (drop i b) ≡ false
   unfolding startsWith
   starts-differ n = rw (drop-cons a i 0, drop-cons b i 0, ne-eqb (getD a i 0) (getD b i 0) n)
@@ -85,10 +92,6 @@ module _ (a b : List ℕ) (i : ℕ) (ha : i < length a) (hb : i < length b) wher
   pub starts-on : getD a i 0 ≡ getD b i 0 → startsWith (drop i a) (drop i b) ≡ startsWith (drop (i + 1) a) (drop (i + 1) b)
   unfolding startsWith
   starts-on e = rw (add-one, drop-cons a i 0, drop-cons b i 0, eq-eqb (getD a i 0) (getD b i 0) e)
-
-pub same-end : (a b : List ℕ) (i : ℕ) → length a ≤ i → length b ≤ i → sameBytes (drop i a) (drop i b) ≡ true
-unfolding sameBytes
-same-end a b i ha hb = rw (drop-of-length-le a ha, drop-of-length-le b hb)
 
 pub starts-end : (a b : List ℕ) (i : ℕ) → length a ≤ i → startsWith (drop i a) (drop i b) ≡ true
 unfolding startsWith

@@ -10,3 +10,4 @@ pub mod BitLaws
 pub mod ByteLaws
 pub mod AnswerLaws
 pub mod LoopLaws
+pub mod ByteLoopLaws

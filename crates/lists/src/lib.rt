@@ -9,23 +9,6 @@ pub enum Found {
     Nothing,
 }
 
-// Whether two slices hold the same bytes.
-pub fn same_bytes(a: &[u8], b: &[u8]) -> bool
-    ensures { λ r. ⌜ r ≡ sameBytes (now (a .entry)) (now (b .entry)) ⌝ }
-{
-    if a.len() != b.len() {
-        return false;
-    }
-    let mut i: usize = 0;
-    while i < a.len() {
-        if a[i] != b[i] {
-            return false;
-        }
-        i += 1;
-    }
-    true
-}
-
 // Whether the bytes of s begin with those of prefix.
 pub fn starts_with(prefix: &[u8], s: &[u8]) -> bool
     ensures { λ r. ⌜ r ≡ startsWith (now (prefix .entry)) (now (s .entry)) ⌝ }
@@ -41,4 +24,14 @@ pub fn starts_with(prefix: &[u8], s: &[u8]) -> bool
         i += 1;
     }
     true
+}
+
+// Whether two slices hold the same bytes.
+pub fn same_bytes(a: &[u8], b: &[u8]) -> bool
+    ensures { λ r. ⌜ r ≡ sameBytes (now (a .entry)) (now (b .entry)) ⌝ }
+{
+    if a.len() != b.len() {
+        return false;
+    }
+    starts_with(a, b)
 }

@@ -1,0 +1,79 @@
+-- The loops over the bytes of a slice: for each shape its invariant at byte i, and the laws of its start, its return, its step and its end. Each
+-- law ends in what the code owes, and its premises are what the code knows, so that one list serves each need of such a loop: `search starts`,
+-- `search fills`. Where every byte passes a test, AllLoop of LoopLaws serves. Assumes nothing.
+use mathlib.Core.Path.{_≡_, refl, sym, _∙_, ap}
+use mathlib.Core.Bool.{true, false}
+use mathlib.Core.List.{List}
+use Prim.Native.Nat.{ℕ, _+_, _<_, _≤_}
+use native.Mathlib.Nat.{zero-add}
+use native.Mathlib.Numerals.{add-one}
+use native.Mathlib.Omega.{arith}
+use borrow.Author.Needs.{needs}
+use lib.ListN.{length, drop, getD, set, length-set}
+use lib.Seq.{paste, paste-zero, paste-suc}
+use Rattle.lists.specs.Bytes.{startsWith}
+use Rattle.lists.specs.ByteLaws.{starts-short, starts-differ, starts-on, starts-end}
+
+-- b begins with a: what is left to compare from byte i on
+pub record StartsLoop (a b : List ℕ) (i : ℕ) : Type 0 where
+  pub fits : length a ≤ length b
+  pub place : i ≤ length a
+  pub rest : startsWith a b ≡ startsWith (drop i a) (drop i b)
+
+module _ (a b : List ℕ) where
+  pub starts-start : length a ≤ length b → StartsLoop a b 0
+  starts-start h = record { fits = h; place = omega arith; rest = refl }
+
+  pub too-short : length b < length a → false ≡ startsWith a b
+  too-short h = sym (starts-short a b h)
+
+  module _ (i : ℕ) (h : StartsLoop a b i) where
+    pub starts-other : i < length a → (getD a i 0 ≡ getD b i 0 → ⊥) → false ≡ startsWith a b
+    starts-other k n = sym (h .rest ∙ starts-differ a b i (omega arith) (omega arith) n)
+
+    pub starts-step : i < length a → getD a i 0 ≡ getD b i 0 → StartsLoop a b (i + 1)
+    starts-step k e = record { fits = h .fits; place = omega arith; rest = h .rest ∙ starts-on a b i (omega arith) (omega arith) e }
+
+    pub starts-all : length a ≤ i → true ≡ startsWith a b
+    starts-all k = sym (h .rest ∙ starts-end a b i k)
+
+pub ruleset starts = (starts-other, starts-step, starts-all, too-short, starts-start, needs)
+
+-- a slice filled: the first i of the n elements of s stand in out from `at` on, and the rest is as it was
+pub record FillLoop {A : Type 0} (out₀ : List A) (at : ℕ) (s : List A) (n i : ℕ) (out : List A) : Type 0 where
+  pub place : i ≤ n
+  pub room : at + n ≤ length out₀
+  pub source : n ≤ length s
+  pub size : length out ≡ length out₀
+  pub filled : out ≡ paste out₀ at s i
+
+module _ {A : Type 0} (out₀ : List A) (at : ℕ) (s : List A) (n : ℕ) where
+  pub fill-start : at + n ≤ length out₀ → n ≤ length s → FillLoop out₀ at s n 0 out₀
+  fill-start h k = record { place = omega arith; room = h; source = k; size = refl; filled = paste-zero out₀ at s }
+
+module _ {A : Type 0} (out₀ : List A) (at : ℕ) (s : List A) (n i : ℕ) (out : List A) where
+  -- x is the element that the code stored, at the place p
+  pub fill-step : (d : A) → FillLoop out₀ at s n i out → i < n → FillLoop out₀ at s n (i + 1) (set out (at + i) (getD s i d))
+  fill-step d h k =
+      record {
+        place = omega arith;
+        room = h .room;
+        source = h .source;
+        size = length-set out (at + i) (getD s i d) ∙ h .size;
+        filled =
+            rw (add-one i)
+            (ap (λ (m : List A). set m (at + i) (getD s i d)) (h .filled) ∙ paste-suc out₀ at s i d (omega arith) (omega arith));
+      }
+
+  pub fill-end : FillLoop out₀ at s n i out → n ≤ i → out ≡ paste out₀ at s n
+  fill-end h k = let e : i ≡ n = omega arith in h .filled ∙ ap (paste out₀ at s) e
+
+  pub fill-size : FillLoop out₀ at s n i out → length out ≡ length out₀
+  fill-size h = h .size
+
+-- from the first place on
+pub fill-step-first : {A : Type 0} (out₀ s : List A) (n i : ℕ) (out : List A) (d : A) → FillLoop out₀ 0 s n i out → i < n
+    → FillLoop out₀ 0 s n (i + 1) (set out i (getD s i d))
+fill-step-first out₀ s n i out d h k = rw (zero-add i) at (fill-step out₀ 0 s n i out d h k)
+
+pub ruleset fills = (fill-step-first, fill-step, fill-end, fill-size, fill-start, needs)
