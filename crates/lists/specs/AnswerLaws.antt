@@ -123,6 +123,31 @@ module _ (a b : Bool) where
   pub before-fails : false ≡ a → false ≡ (a && b)
   before-fails e = sym (rw (sym e))
 
+-- the same of a test that one part is enough to pass, `a || b || ..`
+module _ (a b : Bool) where
+  pub part-holds : b ≡ true → true ≡ (a || b)
+  part-holds e = rw e (go a)
+    where
+      go : (a : Bool) → true ≡ (a || true)
+      go true = refl
+      go false = refl
+
+  pub before-holds : true ≡ a → true ≡ (a || b)
+  before-holds e = sym (rw (sym e))
+
+  pub neither : a ≡ false → b ≡ false → (a || b) ≡ false
+  neither e f = rw (e, f)
+
+-- the part that holds is the one of which r said yes
+pub told-yes : (r a : Bool) → r ≡ true → r ≡ a → a ≡ true
+told-yes r a f e = sym e ∙ f
+
+pub told-none : (r a : Bool) → r ≡ false → r ≡ a → a ≡ false
+told-none r a f e = sym e ∙ f
+
+pub first-holds : (r a : Bool) → r ≡ true → r ≡ a → true ≡ a
+first-holds r a f e = sym (told-yes r a f e)
+
 -- the part that fails is the one of which the last test, r, said no; first-told where it is the first
 pub told-no : (r a : Bool) → not r ≡ true → r ≡ a → a ≡ false
 told-no r a f e = sym e ∙ not-true r f
@@ -155,6 +180,9 @@ pub ruleset failing = (in-use, part-fails, before-fails, ne-eqb)
 pub ruleset refused = (failing, lt-leb, told-no, first-told)
 
 pub ruleset passed = (is-free, in-use, passes, both, eq-eqb, ne-eqb, le-leb, said-yes)
+
+-- of a test that one part is enough to pass
+pub ruleset either = (part-holds, before-holds, in-use, neither, eq-eqb, ne-eqb, told-yes, told-none, first-holds)
 
 -- with all-5 or all-6
 pub ruleset used = (in-use, ne-eqb, eq-eqb, le-leb, said-yes)

@@ -1,15 +1,17 @@
 -- What is known of a path's bytes from some place on is what their parts say; and the two cases of a prefix. Assumes nothing.
-use mathlib.Core.Path.{_≡_, refl, ap, sym}
+use mathlib.Core.Path.{_≡_, refl, ap, sym, _∙_}
 use mathlib.Core.Bool.{Bool, true, false, _&&_, _||_, cond, not}
 use mathlib.Core.List.{List, [], _∷_}
 use Prim.Native.Nat.{ℕ, suc, _-_, _<_, _≤_}
 use native.Mathlib.Omega.{arith}
+use borrow.Author.Tests.{eq-eqb, ne-eqb}
+use borrow.Author.Needs.{needs}
 use lib.Dec.{eqb}
 use lib.ListN.{length, drop, getD, drop-of-length-le}
-use lib.Seq.{drop-cons}
+use lib.Seq.{drop-cons, length-take-le}
 use Rattle.lists.specs.Lists.{allOf}
 use Rattle.lists.specs.Bytes.{sameBytes}
-use Rattle.text.specs.Text.{slash, dot, ontoFirst, parts, isPart, isPrefix, isPathAndSlash}
+use Rattle.text.specs.Text.{slash, dot, ontoFirst, parts, isPart, butLast, isPrefix, isPathAndSlash}
 use Rattle.text.specs.Scan.{isOther, longer, passes, scanByte}
 use Rattle.text.specs.declared.path.Kind.{Kind}
 use Rattle.text.specs.declared.path.Kind.the-variants.{Empty, Dot, DotDot, Other}
@@ -92,24 +94,48 @@ pub known-byte : (b : ℕ) (bs : List ℕ) → known (parts (b ∷ bs)) ≡ scan
 unfolding parts
 known-byte b bs = known-cond (eqb b slash) b (parts bs) (known-passes bs)
 
--- reading from the last byte to the first: no byte, and one more
-pub known-none : (s : List ℕ) (i : ℕ) → length s ≤ i → known (parts (drop i s)) ≡ record { first = Empty; rest = true }
-unfolding known kindOf parts allOf
-known-none s i h = rw (drop-of-length-le s h)
+-- the loop from the last byte to the first: k is what is known of the parts of the bytes from i on
+pub record ScanLoop (s : List ℕ) (k : Scan) (i : ℕ) : Type 0 where
+  pub place : i ≤ length s
+  pub knows : k ≡ known (parts (drop i s))
 
-pub known-more : {k : Scan} (s : List ℕ) (i : ℕ) → 0 < i → i ≤ length s → k ≡ known (parts (drop i s))
-    → known (parts (drop (i - 1) s)) ≡ scanByte (getD s (i - 1) 0) k
-known-more {k} s i h l e =
-    let q : suc (i - 1) ≡ i = omega arith in
-    rw (drop-cons s (i - 1) 0 (omega arith), q, e) (known-byte (getD s (i - 1) 0) (drop i s))
+module _ (s : List ℕ) where
+  pub scan-start : ScanLoop s (record { first = Empty; rest = true }) (length s)
+  unfolding known kindOf parts allOf
+  scan-start = record { place = omega arith; knows = sym (rw (drop-of-length-le s {i = length s} (omega arith))) }
 
--- a prefix is empty or not
-pub prefix-none : (s : List ℕ) → length s ≡ 0 → isPrefix s ≡ true
+  module _ (k : Scan) (i : ℕ) (h : ScanLoop s k i) where
+    pub scan-step : (k′ : Scan) → 0 < i → k′ ≡ scanByte (getD s (i - 1) 0) k → ScanLoop s k′ (i - 1)
+    scan-step k′ l e =
+        let q : suc (i - 1) ≡ i = omega arith in
+        record {
+          place = omega (arith, h .place);
+          knows = e ∙ sym (rw (drop-cons s (i - 1) 0 (omega (arith, h .place)), q, h .knows) (known-byte (getD s (i - 1) 0) (drop i s)));
+        }
+
+    pub scan-end : (r : Bool) → i ≤ 0 → r ≡ passes k → r ≡ allOf isPart (parts s)
+    scan-end r l e = let z : i ≡ 0 = omega arith in e ∙ ap passes (h .knows ∙ ap (λ (n : ℕ). known (parts (drop n s))) z) ∙ known-passes s
+
+pub ruleset scans = (scan-step, scan-end, scan-start, needs)
+
+-- a prefix is empty or not: x is what the code answers
+pub prefix-none : (s : List ℕ) → length s ≡ 0 → true ≡ isPrefix s
 unfolding isPrefix
 prefix-none [] e = refl
 prefix-none (b ∷ bs) e = absurd (omega arith)
 
-pub prefix-some : (s : List ℕ) → (length s ≡ 0 → ⊥) → isPrefix s ≡ isPathAndSlash s
+pub prefix-some : (s : List ℕ) (x : Bool) → (length s ≡ 0 → ⊥) → x ≡ isPathAndSlash s → x ≡ isPrefix s
 unfolding isPrefix
-prefix-some [] n = absurd (n refl)
-prefix-some (b ∷ bs) n = refl
+prefix-some [] x n e = absurd (n refl)
+prefix-some (b ∷ bs) x n e = e
+
+pub but-last-length : (s : List ℕ) → length s - 1 ≡ length (butLast s)
+but-last-length s = sym (length-take-le (length s - 1) s (omega arith))
+
+-- what the code makes of one more byte: r is what it was told of the parts known so far, f the first part with the byte
+pub scan-slash : (b : ℕ) (k : Scan) (r : Bool) → b ≡ slash → r ≡ passes k → record { first = Empty; rest = r } ≡ scanByte b k
+scan-slash b k r e f = rw (eq-eqb b slash e, f)
+
+pub scan-other : (b : ℕ) (k : Scan) (f : Kind) → (b ≡ slash → ⊥) → f ≡ longer (eqb b dot) (k .first)
+    → record { first = f; rest = k .rest } ≡ scanByte b k
+scan-other b k f n e = rw (ne-eqb b slash n, e)

@@ -3,32 +3,20 @@ use mathlib.Core.Path.{_≡_, refl, ap, sym, _∙_}
 use mathlib.Core.Bool.{Bool, true, _&&_}
 use mathlib.Core.List.{List, [], _∷_, _++_}
 use Prim.Native.Nat.{ℕ, zero, suc, min, _+_, _-_, _<_, _≤_}
-use native.Mathlib.Nat.{min-comm, min-zero, min-le-right, suc-min-suc}
-use native.Mathlib.Numerals.{add-one}
+use native.Mathlib.Nat.{zero-add, min-comm, min-zero, min-le-left, min-le-right, suc-min-suc}
 use native.Mathlib.Omega.{arith}
 use borrow.Author.Tests.{le-leb, leb-true}
+use borrow.Author.Needs.{needs}
 use lib.Dec.{leb, eqb}
-use lib.ListN.{length, take, getD, set, replicate, length-take}
-use lib.Seq.{take-nil, take-suc, take-at, length-take-le, set-at, append-snoc}
+use lib.ListN.{length, take, drop, getD, replicate, length-take}
+use lib.Seq.{take-nil, take-at, length-take-le}
 use Rattle.lists.specs.Lists.{allOf}
+use Rattle.lists.specs.Bytes.{sameBytes, startsWith}
 use Rattle.lists.specs.BoolLaws.{and-left, and-right}
+use Rattle.lists.specs.ByteLoopLaws.{FillLoop, fill-end, fills}
 use Rattle.text.specs.declared.Text.{Text}
 use Rattle.text.specs.Text.{pathLimit, nameLimit, slash, isPathByte, isPart, parts, isPath, butLast}
 use Rattle.text.specs.Text.{isPathAndSlash, isPrefix, isNameByte, isName, textBytes, toText, holds}
-
--- the bytes t, padded with zeros to w bytes
-abbrev pub padded : ℕ → List ℕ → List ℕ
-padded w t = t ++ replicate (w - length t) 0
-
--- one more byte
-pub padded-more : (w : ℕ) (s : List ℕ) (i : ℕ) → i < length s → i < w → set (padded w (take i s)) i (getD s i 0) ≡ padded w (take (i + 1) s)
-padded-more w s i h k =
-    let n : length (take i s) ≡ i = length-take-le i s (omega arith) in
-    let m : length (take (suc i) s) ≡ suc i = length-take-le (suc i) s (omega arith) in
-    let z : w - i ≡ suc (w - suc i) = omega arith in
-    let rest : List ℕ = replicate (w - suc i) 0 in
-    rw (add-one, n, m, z)
-    (set-at (take i s) 0 rest (getD s i 0) i n ∙ rw (take-suc s i 0 h) (sym (append-snoc (take i s) (getD s i 0) rest)))
 
 -- no more than all
 pub take-min : (m : ℕ) (l : List ℕ) → take (min (length l) m) l ≡ take m l
@@ -37,7 +25,7 @@ take-min zero (x ∷ xs) = rw (min-zero (suc (length xs)))
 take-min (suc m) (x ∷ xs) = rw (suc-min-suc (length xs) m) (ap (λ ys. x ∷ ys) (take-min m xs))
 
 -- the part of a text's array that holds its n bytes
-module _ (t : Text) {n : ℕ} (e : n ≡ length (textBytes t)) where
+module _ (t : Text) (n : ℕ) (e : n ≡ length (textBytes t)) where
   pub part-within : n ≤ length (t .bytes)
   part-within = omega (arith, length-take (t .len) (t .bytes), min-le-right (t .len) (length (t .bytes)))
 
@@ -49,13 +37,55 @@ module _ (t : Text) {n : ℕ} (e : n ≡ length (textBytes t)) where
   pub part-length : n ≡ length (take n (t .bytes))
   part-length = e ∙ ap length (sym part-bytes)
 
--- a text filled with all that it takes of s
-pub text-filled : (s : List ℕ) (n : ℕ) (b : List ℕ) → n ≡ min (length s) pathLimit → b ≡ padded pathLimit (take n s)
-    → record { bytes = b; len = n } ≡ toText (take pathLimit s)
-text-filled s n b e f =
-    let q : take n s ≡ take pathLimit s = ap (λ (m : ℕ). take m s) e ∙ take-min pathLimit s in
-    let l : n ≡ length (take pathLimit s) = e ∙ min-comm (length s) pathLimit ∙ sym (length-take pathLimit s) in
-    λ i. record { bytes = (f ∙ ap (padded pathLimit) q) i; len = l i }
+  -- what was said of that part is said of the text
+  module _ (r : Bool) (s : List ℕ) where
+    pub part-same : r ≡ sameBytes (take n (t .bytes)) s → r ≡ sameBytes (textBytes t) s
+    part-same f = rw (← part-bytes) f
+
+    pub part-begins : r ≡ startsWith (take n (t .bytes)) s → r ≡ startsWith (textBytes t) s
+    part-begins f = rw (← part-bytes) f
+
+    pub same-part : r ≡ sameBytes s (take n (t .bytes)) → r ≡ sameBytes s (textBytes t)
+    same-part f = rw (← part-bytes) f
+
+pub ruleset lent = (part-within, part-length, part-same, part-begins, same-part, needs)
+
+-- the part of an array of w bytes that holds its first n
+module _ (l : List ℕ) (n w : ℕ) (e : length l ≡ w) (h : n ≤ w) where
+  pub front-within : n ≤ length l
+  front-within = omega arith
+
+  pub front-length : n ≡ length (take n l)
+  front-length = sym (length-take-le n l (omega arith))
+
+pub ruleset front = (front-within, front-length, needs)
+
+-- a text has its array's length or less
+pub length-text : (t : Text) (r : ℕ) → r ≡ min (t .len) pathLimit → length (t .bytes) ≡ pathLimit → r ≡ length (textBytes t)
+length-text t r e h = e ∙ sym (length-take (t .len) (t .bytes) ∙ rw h)
+
+-- a text filled with all that it takes of s: its n bytes, and zeros
+drop-same : (a n m : ℕ) → drop n (replicate m a) ≡ replicate (m - n) a
+drop-same a zero m = let z : m - 0 ≡ m = omega arith in rw z
+drop-same a (suc n) zero = let z : 0 - suc n ≡ 0 = omega arith in rw z
+drop-same a (suc n) (suc m) = let z : suc m - suc n ≡ m - n = omega arith in rw z (drop-same a n m)
+
+module _ (s : List ℕ) (n : ℕ) (e : n ≡ min (length s) pathLimit) where
+  pub filled-source : n ≤ length s
+  filled-source = omega (arith, min-le-left (length s) pathLimit)
+
+  pub filled-room : n ≤ pathLimit
+  filled-room = omega (arith, min-le-right (length s) pathLimit)
+
+  pub text-filled : (i : ℕ) (b : List ℕ) → FillLoop (replicate pathLimit 0) 0 s n i b → n ≤ i → record { bytes = b; len = n } ≡ toText (take pathLimit s)
+  text-filled i b h k =
+      let q : take n s ≡ take pathLimit s = ap (λ (m : ℕ). take m s) e ∙ take-min pathLimit s in
+      let l : n ≡ length (take pathLimit s) = e ∙ min-comm (length s) pathLimit ∙ sym (length-take pathLimit s) in
+      let f : b ≡ take pathLimit s ++ replicate (pathLimit - length (take pathLimit s)) 0 =
+      fill-end (replicate pathLimit 0) 0 s n i b h k ∙ rw (zero-add n, q, drop-same 0 n pathLimit, ← l) in
+      λ j. record { bytes = f j; len = l j }
+
+pub ruleset texts = (text-filled, filled-source, filled-room, fills)
 
 -- a text holds what it was made of
 pub text-bytes : (s : List ℕ) → textBytes (toText s) ≡ s

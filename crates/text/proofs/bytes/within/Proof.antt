@@ -1,13 +1,11 @@
 -- `bytes::within` meets its contract. Assumes nothing.
-use borrow.Author.Tests.{lt-leb, le-leb}
+use Rattle.lists.specs.AnswerLaws.{checks}
 use Rattle.text.proofs.bytes.within.Statement.{statement}
 use Rattle.text.proofs.bytes.within.Tie as tie
 
-returns : tie.Need-returns
-returns c = rw (lt-leb _ _ (c .if1 .taken))
-
-returns-2 : tie.Need-returns-2
-returns-2 c = rw (le-leb _ _ (c .if1 .left))
-
 pub within-spec : {M : Type 1} → statement M
-within-spec = tie.close (tie.spec returns returns-2)
+within-spec =
+    tie.close
+    (tie.spec
+    (λ c. search checks)
+    (λ c. search checks))

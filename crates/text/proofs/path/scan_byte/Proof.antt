@@ -1,20 +1,14 @@
 -- `path::scan_byte` meets its contract. Assumes nothing.
-use borrow.Author.Tests.{eq-eqb, ne-eqb}
+use Rattle.text.specs.PathLaws.{scan-slash, scan-other}
 use borrow.Author.Needs.{needs}
 use Rattle.text.proofs.path.scan_byte.Statement.{statement}
 use Rattle.text.proofs.path.scan_byte.Tie as tie
 
-passes-requires : tie.Need-passes-requires
-passes-requires c κs = search needs
-
-returns : tie.Need-returns
-returns c = rw (eq-eqb _ _ (c .before .if1 .taken), c .passes .ensures)
-
-longer-requires : tie.Need-longer-requires
-longer-requires c κs = search needs
-
-returns-2 : tie.Need-returns-2
-returns-2 c = rw (ne-eqb _ _ (c .before .if1 .left), c .longer .ensures)
-
 pub scan-byte-spec : {M : Type 1} → statement M
-scan-byte-spec = tie.close (tie.spec passes-requires returns longer-requires returns-2)
+scan-byte-spec =
+    tie.close
+    (tie.spec
+    (λ c κs. search needs)
+    (λ c. search scan-slash)
+    (λ c κs. search needs)
+    (λ c. search scan-other))
