@@ -1,7 +1,7 @@
 -- How an answer of the code goes through a rule. A rule is a row of checks, `cond CHECK REFUSAL REST`, and may end in a row of a table that
 -- is found or not; a test is a row of parts, `free || (a && b && ..)`. The code asks a function for each, and the rule's answer follows from what was said, check by check. Each law ends in
 -- what the code owes, and its premises are what the code knows, so that `search checks` goes through a rule by itself. Assumes nothing.
-use mathlib.Core.Path.{_≡_, refl, sym, _∙_}
+use mathlib.Core.Path.{_≡_, refl, sym, _∙_, ap}
 use mathlib.Core.Bool.{Bool, true, false, not, cond, _&&_, _||_}
 use mathlib.Core.List.{List}
 use Prim.Native.Nat.{ℕ, _*_, _^_, _<_, _≤_}
@@ -11,7 +11,7 @@ use mir.Val.{Fits}
 use mir.Syntax.{w64}
 use borrow.Author.Tests.{eq-eqb, ne-eqb, lt-ltb, le-ltb, le-leb, lt-leb, not-true, not-false, ltb-true}
 use borrow.Author.Needs.{needs}
-use lib.Dec.{leb, ltb}
+use lib.Dec.{eqb, leb, ltb}
 use lib.ListN.{length, getD, take, length-take}
 use Rattle.lists.specs.declared.Found.{Found}
 use Rattle.lists.specs.declared.Found.the-variants.{At, Nothing}
@@ -158,6 +158,16 @@ first-told r a f e = sym (told-no r a f e)
 -- a limit on a number n that a function counted as r
 pub counted-over : (r n m : ℕ) → m < r → r ≡ n → leb n m ≡ false
 counted-over r n m h e = rw (← e) (lt-leb r m h)
+
+-- a number that is not the n that a function counted as r
+pub counted-other : (r n m : ℕ) → (m ≡ r → ⊥) → r ≡ n → eqb m n ≡ false
+counted-other r n m h e = rw (← e) (ne-eqb m r h)
+
+pub counted-same : (r n m : ℕ) → m ≡ r → r ≡ n → eqb m n ≡ true
+counted-same r n m h e = eq-eqb m n (h ∙ e)
+
+pub counted-is : (r n m : ℕ) → r ≡ n → eqb m r ≡ eqb m n
+counted-is r n m e = ap (eqb m) e
 
 -- a test that the code has the other way round
 pub not-some : (a : Bool) → a ≡ true → not a ≡ false

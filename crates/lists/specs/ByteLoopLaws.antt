@@ -3,15 +3,16 @@
 -- `search fills`. Where every byte passes a test, AllLoop of LoopLaws serves. Assumes nothing.
 use mathlib.Core.Path.{_≡_, refl, sym, _∙_, ap}
 use mathlib.Core.Bool.{true, false}
-use mathlib.Core.List.{List}
+use mathlib.Core.List.{List, map, append-nil}
 use Prim.Native.Nat.{ℕ, _+_, _<_, _≤_}
 use native.Mathlib.Nat.{zero-add}
 use native.Mathlib.Numerals.{add-one}
 use native.Mathlib.Omega.{arith}
 use borrow.Author.Needs.{needs}
-use lib.ListN.{length, drop, getD, set, length-set}
-use lib.Seq.{paste, paste-zero, paste-suc}
+use lib.ListN.{length, drop, getD, set, length-set, length-map, List·getD-map, drop-of-length-le}
+use lib.Seq.{paste, paste-zero, paste-suc, take-length}
 use Rattle.lists.specs.Bytes.{startsWith}
+use Rattle.lists.specs.RowLaws.{rows-length}
 use Rattle.lists.specs.ByteLaws.{starts-short, starts-differ, starts-on, starts-end}
 
 -- b begins with a: what is left to compare from byte i on
@@ -52,7 +53,6 @@ module _ {A : Type 0} (out₀ : List A) (at : ℕ) (s : List A) (n : ℕ) where
   fill-start h k = record { place = omega arith; room = h; source = k; size = refl; filled = paste-zero out₀ at s }
 
 module _ {A : Type 0} (out₀ : List A) (at : ℕ) (s : List A) (n i : ℕ) (out : List A) where
-  -- x is the element that the code stored, at the place p
   pub fill-step : (d : A) → FillLoop out₀ at s n i out → i < n → FillLoop out₀ at s n (i + 1) (set out (at + i) (getD s i d))
   fill-step d h k =
       record {
@@ -76,4 +76,23 @@ pub fill-step-first : {A : Type 0} (out₀ s : List A) (n i : ℕ) (out : List A
     → FillLoop out₀ 0 s n (i + 1) (set out i (getD s i d))
 fill-step-first out₀ s n i out d h k = rw (zero-add i) at (fill-step out₀ 0 s n i out d h k)
 
+-- with what a function of each row gives: x is what it gave of row i
+pub fill-step-of : {A B : Type 0} (f : B → A) (d : B) (out₀ : List A) (l : List B) (n i : ℕ) (out : List A) (x : A) → FillLoop out₀ 0 (map f l) n i out → i < n
+    → x ≡ f (getD l i d) → FillLoop out₀ 0 (map f l) n (i + 1) (set out i x)
+fill-step-of f d out₀ l n i out x h k e = rw (e, ← List·getD-map f l i d) (fill-step-first out₀ (map f l) n i out (f d) h k)
+
+pub length-mapped : {A B : Type 0} (f : A → B) (l : List A) (n : ℕ) → length l ≡ n → length (map f l) ≡ n
+length-mapped f l n e = length-map l f ∙ e
+
+pub least-mapped : {A B : Type 0} (f : A → B) (l : List A) (n : ℕ) → length l ≡ n → n ≤ length (map f l)
+least-mapped f l n e = omega (arith, length-map l f)
+
+-- the whole of the slice
+pub fill-whole : {A : Type 0} (out₀ s : List A) (n i : ℕ) (out : List A) → FillLoop out₀ 0 s n i out → n ≤ i → length out₀ ≡ n → length s ≡ n → out ≡ s
+fill-whole out₀ s n i out h k e f =
+    let z : i ≡ n = omega (arith, h .place) in
+    h .filled ∙ rw (zero-add i, z, ← f, take-length s) (rw (drop-of-length-le out₀ {i = length s} (omega arith)) (append-nil s))
+
 pub ruleset fills = (fill-step-first, fill-step, fill-end, fill-size, fill-start, needs)
+
+pub ruleset fills-of = (fill-step-of, fill-whole, fill-size, fill-start, length-mapped, least-mapped, rows-length, needs)

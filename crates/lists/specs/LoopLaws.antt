@@ -1,7 +1,7 @@
 -- The loops over the rows of a table, or over its first k rows, `take k l`: for each shape its invariant at row i of n, and the laws of its
 -- start, its return, its step and its end. b is what the code's test said of row i, and d stands for a row past the end. Each law ends in what
 -- the code owes, and its premises are what the code knows, so that one list serves each need of such a loop: `search finds`, `search anys`,
--- `search alls`, `search clashes`. Assumes nothing.
+-- `search alls`, `search clashes`, `search sums`. Assumes nothing.
 use mathlib.Core.Path.{_≡_, refl, sym, _∙_}
 use mathlib.Core.Bool.{Bool, true, false, not}
 use mathlib.Core.List.{List}
@@ -13,10 +13,11 @@ use lib.ListN.{length, drop, getD, take, length-take}
 use lib.Seq.{getD-take}
 use Rattle.lists.specs.declared.Found.{Found}
 use Rattle.lists.specs.declared.Found.the-variants.{At, Nothing}
-use Rattle.lists.specs.Lists.{firstAt, allOf, anyOf, noClash}
+use Rattle.lists.specs.Lists.{firstAt, allOf, anyOf, noClash, sumOf}
 use Rattle.lists.specs.SearchLaws.{first-here, first-on, first-end}
 use Rattle.lists.specs.TestLaws.{all-fails, all-on, all-end, any-here, any-on, any-end, clash-here, clash-on, clash-end}
 use Rattle.lists.specs.RowLaws.{rows-length}
+use Rattle.lists.specs.SumLaws.{sum-more, sum-end}
 
 -- the first k rows: their number, and a row of theirs
 pub part-length : {A : Type 0} (l : List A) (k m n : ℕ) → n ≡ min k m → length l ≡ m → length (take k l) ≡ n
@@ -175,3 +176,32 @@ module _ {A : Type 0} (d : A) (clash : A → A → Bool) (l : List A) (k n i : �
 pub ruleset clashes = (clash-found, clash-step, clash-none, clash-start, sizes)
 
 pub ruleset clashes-part = (clash-found-part, clash-step-part, clash-none, clash-start, sizes)
+
+-- a sum over the rows: what was added so far, with the sum of the rows from i on, is the whole
+pub record SumLoop {A : Type 0} (f : A → ℕ) (l : List A) (n i sum : ℕ) : Type 0 where
+  pub size : length l ≡ n
+  pub rest : sum + sumOf f (drop i l) ≡ sumOf f l
+
+module _ {A : Type 0} (f : A → ℕ) (l : List A) where
+  pub sum-start : (n : ℕ) → length l ≡ n → SumLoop f l n 0 0
+  sum-start n e = record { size = e; rest = omega arith }
+
+  module _ (n i sum : ℕ) where
+    pub sum-all : SumLoop f l n i sum → n ≤ i → sum ≡ sumOf f l
+    sum-all h k = sum-end f l i sum (omega (arith, h .size)) (h .rest)
+
+-- v is what row i has, and s the sum after it
+module _ {A : Type 0} (d : A) (f : A → ℕ) (l : List A) (n i sum : ℕ) where
+  pub sum-adds : (v s : ℕ) → SumLoop f l n i sum → i < n → v ≡ f (getD l i d) → s ≡ sum + v → SumLoop f l n (i + 1) s
+  sum-adds v s h k e q = rw q (record { size = h .size; rest = sum-more f l d i sum (omega (arith, h .size)) (h .rest) e })
+
+  pub sum-skips : SumLoop f l n i sum → i < n → f (getD l i d) ≡ 0 → SumLoop f l n (i + 1) sum
+  sum-skips h k e = let z : sum ≡ sum + 0 = omega arith in sum-adds 0 sum h k (sym e) z
+
+  -- a sum is no more than the whole
+  pub sum-within : SumLoop f l n i sum → i < n → sum + f (getD l i d) ≤ sumOf f l
+  sum-within h k =
+      let r = sum-more f l d i sum (omega (arith, h .size)) (h .rest) refl in
+      omega (arith, r)
+
+pub ruleset sums = (sum-adds, sum-skips, sum-all, sum-start, sizes)

@@ -4,7 +4,8 @@
 use mathlib.Core.Path.{_≡_, refl, ap, ap₂, sym, _∙_}
 use mathlib.Core.Bool.{Bool}
 use mathlib.Core.List.{List, [], _∷_, _++_, map, head-eq-of-cons-eq, tail-eq-of-cons-eq}
-use Prim.Native.Nat.{ℕ, suc, _<_}
+use Prim.Native.Nat.{ℕ, zero, suc, _<_}
+use native.Mathlib.Nat.{le-of-suc-le-suc, not-suc-le-zero}
 use native.Mathlib.Omega.{arith}
 use lib.ListN.{length, getD, length-map}
 use Rattle.lists.specs.Lists.{firstAt, firstRow, allOf, anyOf, countIf, keep, sumOf, total, noClash, bitSet}
@@ -23,6 +24,12 @@ map-agree f g (x ∷ xs) d e = ap₂ _∷_ (e 0 (omega arith)) (map-agree f g xs
 pub map-after : {A B C : Type 0} (f : B → C) (g : A → B) (h : A → C) (l : List A) → ((x : A) → f (g x) ≡ h x) → map f (map g l) ≡ map h l
 map-after f g h [] e = refl
 map-after f g h (x ∷ xs) e = ap₂ _∷_ (e x) (map-after f g h xs e)
+
+-- a row of a table that was mapped
+pub map-row : {A B : Type 0} (f : A → B) (l : List A) (i : ℕ) (d : A) (z : B) → i < length l → getD (map f l) i z ≡ f (getD l i d)
+map-row f [] i d z h = absurd (not-suc-le-zero h)
+map-row f (x ∷ xs) zero d z h = refl
+map-row f (x ∷ xs) (suc i) d z h = map-row f xs i d z (le-of-suc-le-suc h)
 
 pub map-append : {A B : Type 0} (f : A → B) (l m : List A) → map f (l ++ m) ≡ map f l ++ map f m
 map-append f [] m = refl

@@ -1,4 +1,5 @@
 -- Laws of the rules, and the proofs of the theorems.
+pub mod CeilLaws
 pub mod SoundParts
 pub mod Shape
 pub mod MappedLaws

@@ -1,23 +1,22 @@
 -- What the tests of the volumes and entries say of an entry's shards, and the loops over the entries. Assumes nothing.
-use mathlib.Core.Path.{_≡_, refl, sym, _∙_}
-use mathlib.Core.Bool.{Bool, true, false, _&&_, _||_}
-use mathlib.Core.Logic.{⊎-elim}
-use mathlib.Core.List.{List}
+use mathlib.Core.Path.{_≡_, refl, sym, _∙_, ap}
+use mathlib.Core.Bool.{Bool, true, false, cond, _&&_, _||_}
+use mathlib.Core.List.{List, map}
 use Prim.Native.Nat.{ℕ, _+_, _*_, _^_, _<_, _≤_}
 use mir.Val.{Fits}
-use mir.Syntax.{w64}
+use mir.Syntax.{w32, w64}
 use borrow.Author.Needs.{needs}
 use native.Mathlib.Omega.{arith}
-use borrow.Author.Tests.{ltb-true, leb-true, eqb-true, eqb-false, ne-eqb}
-use lib.Dec.{eqb, leb, ltb}
-use lib.ListN.{length, drop, getD, set, length-set}
-use lib.Seq.{getD-set-same, getD-set-other}
+use borrow.Author.Tests.{ltb-true, leb-true, eqb-true, ne-eqb}
+use lib.Dec.{eqb, leb}
+use lib.ListN.{length, getD}
 use Rattle.lists.specs.declared.Found.{Found}
 use Rattle.lists.specs.declared.Found.the-variants.{At, Nothing}
-use Rattle.lists.specs.Lists.{allOf, noClash, find, firstAt, hit, miss, sumOf}
-use Rattle.lists.specs.SumLaws.{sum-more, sum-end}
-use Rattle.lists.specs.RowLaws.{rows-length}
-use Rattle.lists.specs.BoolLaws.{and-left, and-right, pass-or-fail}
+use Rattle.lists.specs.Lists.{Hit, allOf, noClash, find, firstAt, hit, miss, sumOf}
+use Rattle.lists.specs.SumLaws.{bit-lt, sum-le}
+use Rattle.lists.specs.LoopLaws.{SumLoop, sum-start, sum-adds, sum-skips, sum-within, sum-all}
+use Rattle.lists.specs.RowLaws.{rows-length, map-row}
+use Rattle.lists.specs.BoolLaws.{and-left, and-right}
 use Rattle.lists.specs.SearchLaws.{found-below, found-at, row-passes, first-row, first-miss}
 use Rattle.lists.specs.TestLaws.{all-at}
 use Rattle.text.specs.Text.{within, isName, isPath, holds}
@@ -30,6 +29,7 @@ use Rattle.rules.specs.Tables.{given, isVolume, usedEntry, freeVolume, freeEntr
 use Rattle.rules.specs.Scope.{capFits}
 use Rattle.rules.specs.Relays.{shardSize, shardBytes, holdsShard, bytesOn, shardsOn}
 use Rattle.rules.specs.Sound.{isGiven, shardsFit, soundStatus, soundVolume, soundVolumes, sameVolume, sameName, soundIn, soundEntry, soundEntries, sameEntry}
+use Rattle.rules.specs.Laws.CeilLaws.{ceil-most}
 use Rattle.rows.specs.Blank.{blankVolume, blankEntry}
 
 -- the bytes of an entry's shards, by what the search for its volume found
@@ -49,10 +49,6 @@ module _ (vs : List Volume) (e : Entry) (f : Found) (w : f ≡ firstAt (isVolume
 
   pub bytes-at : (r i : ℕ) → f ≡ At i → r ≡ shardSize (e .size) (getD vs i blankVolume .k) → r ≡ shardBytes vs e
   bytes-at r i h q = q ∙ sym (shard-some vs e i _ (first-row (isVolume (e .volume)) vs i (sym w ∙ h) blankVolume))
-
-  pub fits-at : (i : ℕ) → ((j : ℕ) (v : Volume) → find (isVolume (e .volume)) vs ≡ hit j v → (e .size ≤ sizeLimit) × (1 ≤ v .k)) → f ≡ At i
-      → (e .size ≤ sizeLimit) × (1 ≤ getD vs i blankVolume .k)
-  fits-at i g h = g i _ (first-row (isVolume (e .volume)) vs i (sym w ∙ h) blankVolume)
 
 -- a used row that is sound passes what comes after the test for a free one
 used-row : (free rest : Bool) → free ≡ false → (free || rest) ≡ true → rest ≡ true
@@ -84,7 +80,7 @@ most-size t e p h =
     leb-true (e .size) sizeLimit (and-right a b (and-left (a && b) s r))
 
 -- so an entry of sound tables can be divided by the K of its volume
-pub divides : (t : Tables) → soundVolumes t ≡ true → soundEntries t ≡ true → (j : ℕ) → j < length (t .entries)
+divides : (t : Tables) → soundVolumes t ≡ true → soundEntries t ≡ true → (j : ℕ) → j < length (t .entries)
     → (i : ℕ) (v : Volume) → find (isVolume (getD (t .entries) j blankEntry .volume)) (t .volumes) ≡ hit i v
     → (getD (t .entries) j blankEntry .size ≤ sizeLimit) × (1 ≤ v .k)
 unfolding soundVolumes soundEntries
@@ -102,14 +98,20 @@ divides t hv he j b i v f =
     let entries = and-left (allOf (soundEntry t) (t .entries)) (noClash sameEntry (t .entries)) he in
     (most-size t e used (all-at (soundEntry t) (t .entries) entries j b blankEntry), least-k t v (omega arith) s)
 
--- one more number stored: what holds of each number below i, and of the one stored at i, holds of each below i + 1
-stored-more : (P : ℕ → ℕ → Type 0) (l : List ℕ) (i v : ℕ) → i < length l → ((j : ℕ) → j < i → P j (getD l j 0)) → P i v
-    → (j : ℕ) → j < i + 1 → P j (getD (set l i v) j 0)
-stored-more P l i v h f p j b =
-    ⊎-elim
-    (λ e. let q : j ≡ i = eqb-true j i e in rw (q, getD-set-same l i v 0 h) p)
-    (λ e. let n : j ≡ i → ⊥ = eqb-false j i e in rw (getD-set-other l i j v 0 n) (f j (omega arith)))
-    (pass-or-fail (eqb j i))
+-- and its shards are no larger than it is
+shard-small : (t : Tables) → soundVolumes t ≡ true → soundEntries t ≡ true → (j : ℕ) → j < length (t .entries)
+    → shardBytes (t .volumes) (getD (t .entries) j blankEntry) ≤ 2 ^ 37
+shard-small t hv he j b = go (find (isVolume (e .volume)) (t .volumes)) refl
+  where
+    e : Entry
+    e = getD (t .entries) j blankEntry
+
+    go : (f : Hit Volume) → find (isVolume (e .volume)) (t .volumes) ≡ f → shardBytes (t .volumes) e ≤ 2 ^ 37
+    go miss q = rw (shard-none (t .volumes) e q) (omega arith)
+    go (hit i v) q =
+        let d = divides t hv he j b i v q in
+        let some : v .k ≡ 0 → ⊥ = omega (arith, d .1) in
+        rw (shard-some (t .volumes) e i v q) (omega (arith, d .0, ceil-most (e .size) (v .k) some))
 
 -- what an entry adds to a relay's load, by the test whether it has a shard there
 module _ (n : RelayNo) (e : Entry) where
@@ -129,83 +131,86 @@ module _ (n : RelayNo) (e : Entry) where
   unfolding bytesOn
   bytes-off vs h = rw h
 
--- the loop that sums a relay's load: the sums so far with those of the entries from i on are the sums of all entries
-pub record LoadLoop (n : RelayNo) (es : List Entry) (ss : List ℕ) (bytes shards i : ℕ) : Type 0 where
-  pub size : length es ≡ 64
-  pub sizes : length ss ≡ 64
-  pub fit : bytes ≤ i * 2 ^ 37
-  pub few : shards ≤ i
-  pub counted : shards + sumOf (shardsOn n) (drop i es) ≡ sumOf (shardsOn n) es
-  pub summed : (vs : List Volume) → ((j : ℕ) → j < 64 → getD ss j 0 ≡ shardBytes vs (getD es j blankEntry))
-      → bytes + sumOf (bytesOn vs n) (drop i es) ≡ sumOf (bytesOn vs n) es
+-- what an entry of sound tables has on a relay is small
+bytes-most : (vs : List Volume) (n : RelayNo) (e : Entry) → bytesOn vs n e ≤ shardBytes vs e
+unfolding bytesOn
+bytes-most vs n e = go (usedEntry e && holdsShard n (e .placement))
+  where
+    go : (b : Bool) → cond b (shardBytes vs e) 0 ≤ shardBytes vs e
+    go true = omega arith
+    go false = omega arith
 
-module _ (n : RelayNo) (es : List Entry) (ss : List ℕ) where
-  pub load-start : length es ≡ 64 → length ss ≡ 64 → LoadLoop n es ss 0 0 0
-  load-start e f =
-      record { size = e; sizes = f; fit = omega arith; few = omega arith; counted = omega arith; summed = λ vs p. omega arith }
+load-small : (t : Tables) (n : RelayNo) → length (t .entries) ≡ 64 → soundVolumes t ≡ true → soundEntries t ≡ true → sumOf (bytesOn (t .volumes) n) (t .entries) ≤ 64 * 2 ^ 37
+load-small t n l hv he =
+    rw l
+    at (sum-le (bytesOn (t .volumes) n) (2 ^ 37) (t .entries) blankEntry (λ j b. omega (arith, bytes-most (t .volumes) n (getD (t .entries) j blankEntry), shard-small t hv he j b)))
 
-  module _ (bytes shards i : ℕ) (h : LoadLoop n es ss bytes shards i) where
-    pub load-bytes : 64 ≤ i → (vs : List Volume) → ((j : ℕ) → j < 64 → getD ss j 0 ≡ shardBytes vs (getD es j blankEntry)) → bytes ≡ sumOf (bytesOn vs n) es
-    load-bytes k vs p = sum-end (bytesOn vs n) es i bytes (omega (arith, h .size)) (h .summed vs p)
+shards-most : (n : RelayNo) (e : Entry) → shardsOn n e ≤ 1
+unfolding shardsOn
+shards-most n e = omega (arith, bit-lt (usedEntry e && holdsShard n (e .placement)))
 
-    pub load-shards : 64 ≤ i → shards ≡ sumOf (shardsOn n) es
-    load-shards k = sum-end (shardsOn n) es i shards (omega (arith, h .size)) (h .counted)
+held-small : (n : RelayNo) (es : List Entry) → length es ≡ 64 → sumOf (shardsOn n) es ≤ 64 * 1
+held-small n es l = rw l at (sum-le (shardsOn n) 1 es blankEntry (λ j b. shards-most n (getD es j blankEntry)))
 
-    module _ (k : i < 64) (small : (j : ℕ) → j < 64 → getD ss j 0 ≤ 2 ^ 37) where
-      pub bytes-fit : Fits w64 (bytes + getD ss i 0)
-      bytes-fit = record { fits = omega (arith, h .fit, small i k) }
+-- the entry at i
+abbrev pub entryAt : Tables → ℕ → Entry
+entryAt t i = getD (t .entries) i blankEntry
 
-      module _ (r : Bool) (e : r ≡ (usedEntry (getD es i blankEntry) && holdsShard n (getD es i blankEntry .placement))) (b′ s′ : ℕ) where
-        pub load-on : r ≡ true → b′ ≡ bytes + getD ss i 0 → s′ ≡ shards + 1 → LoadLoop n es ss b′ s′ (i + 1)
-        load-on w p q =
-            let b : i < length es = omega (arith, h .size) in
-            let on = sym e ∙ w in
-            rw (p, q)
-            record {
-              size = h .size;
-              sizes = h .sizes;
-              fit = omega (arith, h .fit, small i k);
-              few = omega (arith, h .few);
-              counted = sum-more (shardsOn n) es blankEntry i shards b (h .counted) (shard-on n _ on);
-              summed = λ vs p. sum-more (bytesOn vs n) es blankEntry i bytes b (h .summed vs p) (p i k ∙ bytes-on n _ vs on);
-            }
+-- the loop that sums a relay's load over the entries of sound tables, whose shards have the sizes ss
+pub record LoadLoop (t : Tables) (ss : List ℕ) (n : RelayNo) (bytes shards i : ℕ) : Type 0 where
+  pub sized : ss ≡ map (shardBytes (t .volumes)) (t .entries)
+  pub volumes : soundVolumes t ≡ true
+  pub entries : soundEntries t ≡ true
+  pub summed : SumLoop (bytesOn (t .volumes) n) (t .entries) 64 i bytes
+  pub counted : SumLoop (shardsOn n) (t .entries) 64 i shards
 
-        pub load-off : r ≡ false → b′ ≡ bytes → s′ ≡ shards → LoadLoop n es ss b′ s′ (i + 1)
-        load-off w p q =
-            let b : i < length es = omega (arith, h .size) in
-            let off = sym e ∙ w in
-            let s = sum-more (shardsOn n) es blankEntry i shards b (h .counted) (shard-off n _ off) in
-            rw (p, q)
-            record {
-              size = h .size;
-              sizes = h .sizes;
-              fit = omega (arith, h .fit);
-              few = omega (arith, h .few);
-              counted = omega (arith, s);
-              summed = λ vs p. omega (arith, sum-more (bytesOn vs n) es blankEntry i bytes b (h .summed vs p) (bytes-off n _ vs off));
-            }
+module _ (t : Tables) (ss : List ℕ) (n : RelayNo) where
+  pub load-start : length (t .entries) ≡ 64 → ss ≡ map (shardBytes (t .volumes)) (t .entries) → soundVolumes t ≡ true → soundEntries t ≡ true → LoadLoop t ss n 0 0 0
+  load-start l e hv he = record { sized = e; volumes = hv; entries = he; summed = sum-start _ _ 64 l; counted = sum-start _ _ 64 l }
 
-pub ruleset loads = (load-on, load-off, load-shards, load-bytes, bytes-fit, load-start, rows-length, needs)
+  module _ (bytes shards i : ℕ) (h : LoadLoop t ss n bytes shards i) where
+    pub load-bytes : 64 ≤ i → bytes ≡ sumOf (bytesOn (t .volumes) n) (t .entries)
+    load-bytes k = sum-all (bytesOn (t .volumes) n) (t .entries) 64 i bytes (h .summed) k
 
--- the loop that stores the sizes of the entries' shards
-pub record SizesLoop (vs : List Volume) (es : List Entry) (ss : List ℕ) (i : ℕ) : Type 0 where
-  pub size : length es ≡ 64
-  pub sizes : length ss ≡ 64
-  pub stored : (j : ℕ) → j < i → (getD ss j 0 ≡ shardBytes vs (getD es j blankEntry)) × (getD ss j 0 ≤ 2 ^ 37)
+    pub load-shards : 64 ≤ i → shards ≡ sumOf (shardsOn n) (t .entries)
+    load-shards k = sum-all (shardsOn n) (t .entries) 64 i shards (h .counted) k
 
-module _ (vs : List Volume) (es : List Entry) (ss : List ℕ) where
-  pub sizes-start : length es ≡ 64 → length ss ≡ 64 → SizesLoop vs es ss 0
-  sizes-start e f = record { size = e; sizes = f; stored = λ j b. absurd (omega arith) }
+    module _ (k : i < 64) where
+      size-at : getD ss i 0 ≡ shardBytes (t .volumes) (entryAt t i)
+      size-at =
+          ap (λ (l : List ℕ). getD l i 0) (h .sized) ∙ map-row (shardBytes (t .volumes)) (t .entries) i blankEntry 0 (omega (arith, h .summed .size))
 
-  pub sizes-step : (i x : ℕ) → SizesLoop vs es ss i → i < 64 → (x ≡ shardBytes vs (getD es i blankEntry)) × (x ≤ 2 ^ 37) → SizesLoop vs es (set ss i x) (i + 1)
-  sizes-step i x h k p =
-      record {
-        size = h .size;
-        sizes = length-set ss i x ∙ h .sizes;
-        stored = stored-more (λ (j y : ℕ). (y ≡ shardBytes vs (getD es j blankEntry)) × (y ≤ 2 ^ 37)) ss i x (omega (arith, h .sizes)) (h .stored) p;
-      }
+      module _ (r : Bool) (q : r ≡ (usedEntry (entryAt t i) && holdsShard n (entryAt t i .placement))) where
+        pub bytes-fit : r ≡ true → Fits w64 (bytes + getD ss i 0)
+        bytes-fit w =
+            let m = sum-within blankEntry (bytesOn (t .volumes) n) (t .entries) 64 i bytes (h .summed) k in
+            record { fits = omega (arith, m, size-at, bytes-on n (entryAt t i) (t .volumes) (sym q ∙ w), load-small t n (h .summed .size) (h .volumes) (h .entries)) }
 
-  pub sizes-end : (i : ℕ) → SizesLoop vs es ss i → 64 ≤ i → (j : ℕ) → j < 64 → (getD ss j 0 ≡ shardBytes vs (getD es j blankEntry)) × (getD ss j 0 ≤ 2 ^ 37)
-  sizes-end i h k j b = h .stored j (omega arith)
+        pub shards-fit : r ≡ true → Fits w32 (shards + 1)
+        shards-fit w =
+            let m = sum-within blankEntry (shardsOn n) (t .entries) 64 i shards (h .counted) k in
+            record { fits = omega (arith, m, shard-on n (entryAt t i) (sym q ∙ w), held-small n (t .entries) (h .counted .size)) }
 
-pub ruleset storing = (sizes-step, sizes-end, sizes-start, rows-length, needs)
+        module _ (b′ s′ : ℕ) where
+          pub load-on : r ≡ true → b′ ≡ bytes + getD ss i 0 → s′ ≡ shards + 1 → LoadLoop t ss n b′ s′ (i + 1)
+          load-on w f g =
+              record {
+                sized = h .sized;
+                volumes = h .volumes;
+                entries = h .entries;
+                summed = sum-adds blankEntry _ _ 64 i bytes (getD ss i 0) b′ (h .summed) k (size-at ∙ bytes-on n (entryAt t i) (t .volumes) (sym q ∙ w)) f;
+                counted = sum-adds blankEntry _ _ 64 i shards 1 s′ (h .counted) k (shard-on n (entryAt t i) (sym q ∙ w)) g;
+              }
+
+          pub load-off : r ≡ false → b′ ≡ bytes → s′ ≡ shards → LoadLoop t ss n b′ s′ (i + 1)
+          load-off w f g =
+              rw (f, g)
+              (record {
+                sized = h .sized;
+                volumes = h .volumes;
+                entries = h .entries;
+                summed = sum-skips blankEntry _ _ 64 i bytes (h .summed) k (sym (bytes-off n (entryAt t i) (t .volumes) (sym q ∙ w)));
+                counted = sum-skips blankEntry _ _ 64 i shards (h .counted) k (sym (shard-off n (entryAt t i) (sym q ∙ w)));
+              })
+
+pub ruleset loads = (load-on, load-off, load-shards, load-bytes, bytes-fit, shards-fit, load-start, rows-length, needs)

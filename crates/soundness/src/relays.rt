@@ -1,13 +1,11 @@
 // The relay table, row by row and against itself, with the counts that the placements give.
 ghost use mathlib.Core.Path.{_≡_};
 ghost use mathlib.Core.Bool.{true};
-ghost use Prim.Native.Nat.{ℕ, _<_, _≤_, _^_};
-ghost use lib.ListN.{getD};
+ghost use mathlib.Core.List.{map};
 ghost use Rattle.lists.specs.Lists.{allOf, noClash, sumOf};
-ghost use Rattle.rules.specs.declared.Tables.{Tables};
 ghost use Rattle.rules.specs.Relays.{shardBytes, bytesOn, shardsOn};
 ghost use Rattle.rules.specs.Sound.{soundVolumes, soundEntries, soundRelay, soundRelays, sameRelayRow};
-ghost use Rattle.rows.specs.Blank.{blankEntry};
+use super::shards::Load;
 use super::shards::load_of;
 use super::shards::shard_sizes;
 use rows::any_relay;
@@ -15,14 +13,15 @@ use rows::is_given;
 use rules::Relay;
 use rules::Tables;
 
-// A row, where the entries have these bytes and shards on the relay.
-fn sound_relay(x: Relay, bytes: u64, shards: u32, last: u32, clock: u64) -> bool
-    ensures { λ r. ⌜ ((t : Tables) → t .«last_relay» ≡ last → t .clock ≡ clock → bytes ≡ sumOf (bytesOn (t .volumes) (x .no)) (t .entries) → shards ≡ sumOf (shardsOn (x .no)) (t .entries) → r ≡ soundRelay t x) ⌝ }
+// A row, where the entries have this load on the relay.
+fn sound_relay(t: Tables, x: Relay, load: Load) -> bool
+    requires { ⌜ (load .bytes ≡ sumOf (bytesOn (t .volumes) (x .no)) (t .entries)) × (load .shards ≡ sumOf (shardsOn (x .no)) (t .entries)) ⌝ }
+    ensures { λ r. ⌜ r ≡ soundRelay t x ⌝ }
 {
     if x.no.0 == 0 {
         return true;
     }
-    if !is_given(last, x.no.0) {
+    if !is_given(t.last_relay, x.no.0) {
         return false;
     }
     if 4398046511104 < x.capacity {
@@ -31,28 +30,26 @@ fn sound_relay(x: Relay, bytes: u64, shards: u32, last: u32, clock: u64) -> bool
     if x.capacity < x.used {
         return false;
     }
-    if clock < x.beat {
+    if t.clock < x.beat {
         return false;
     }
-    if x.used != bytes {
+    if x.used != load.bytes {
         return false;
     }
-    x.held == shards
+    x.held == load.shards
 }
 
 // Of tables whose shards have these sizes.
 fn all_relays(t: Tables, sizes: [u64; 64]) -> bool
-    requires { ⌜ ((j : ℕ) → j < 64 → (getD sizes j 0 ≡ shardBytes (t .volumes) (getD (t .entries) j blankEntry)) × (getD sizes j 0 ≤ 2 ^ 37)) ⌝ }
+    requires { ⌜ (sizes ≡ map (shardBytes (t .volumes)) (t .entries)) × (soundVolumes t ≡ true) × (soundEntries t ≡ true) ⌝ }
     ensures { λ r. ⌜ r ≡ allOf (soundRelay t) (t .relays) ⌝ }
 {
     let rows = t.relays;
-    let entries = t.entries;
     let mut i: usize = 0;
     while i < 32 {
         let x = rows[i];
         let n = x.no;
-        let load = load_of(entries, sizes, n);
-        if !sound_relay(x, load.bytes, load.shards, t.last_relay, t.clock) {
+        if !sound_relay(t, x, load_of(t, sizes, n)) {
             return false;
         }
         i += 1;

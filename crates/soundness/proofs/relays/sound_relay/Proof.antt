@@ -1,5 +1,6 @@
+-- `relays::sound_relay` meets its contract: each test that led to a return is one of the rule's. Assumes nothing.
 use Rattle.rules.specs.Sound.{soundRelay}
-use Rattle.lists.specs.AnswerLaws.{refused, passed, all-6, used}
+use Rattle.lists.specs.AnswerLaws.{refused, passed, all-6, used, counted-other, counted-same, counted-is}
 use borrow.Author.Needs.{needs}
 use Rattle.soundness.proofs.relays.sound_relay.Statement.{statement}
 use Rattle.soundness.proofs.relays.sound_relay.Tie as tie
@@ -9,11 +10,11 @@ unfolding soundRelay
 sound-relay-spec =
     tie.close
     (tie.spec
-    (λ c t e f g h. search passed)
+    (λ c. search passed)
     (λ c κs. search needs)
-    (λ c t e f g h. rw (e, f, ← g, ← h) (search refused depth 9))
-    (λ c t e f g h. rw (e, f, ← g, ← h) (search refused depth 9))
-    (λ c t e f g h. rw (e, f, ← g, ← h) (search refused depth 9))
-    (λ c t e f g h. rw (e, f, ← g, ← h) (search refused depth 9))
-    (λ c t e f g h. rw (e, f, ← g, ← h) (search refused depth 9))
-    (λ c t e f g h. rw (e, f, ← g, ← h) (search (all-6, used))))
+    (λ c. search refused depth 9)
+    (λ c. search refused depth 9)
+    (λ c. search refused depth 9)
+    (λ c. search refused depth 9)
+    (λ c. search (refused, counted-other) depth 9)
+    (λ c. search (all-6, counted-same, counted-is, used)))

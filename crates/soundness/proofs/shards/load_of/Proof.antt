@@ -1,3 +1,4 @@
+-- `shards::load_of` meets its contract: before each entry, the sums so far with those of the rest are the whole. Assumes nothing.
 use mathlib.Core.Logic.{⊎-elim}
 use Prim.Native.Nat.{_-_}
 use Rattle.soundness.proofs.ShardLaws.{LoadLoop, loads}
@@ -8,8 +9,8 @@ pub load-of-spec : {M : Type 1} → statement M
 load-of-spec =
     tie.close
     (tie.spec
-    (λ n entries sizes bytes₀ shards₀ i₀ bytes shards i. LoadLoop n entries sizes bytes shards i)
-    (λ n entries sizes bytes₀ shards₀ i₀ bytes shards i. 64 - i)
+    (λ n t sizes bytes₀ shards₀ i₀ bytes shards i. LoadLoop t sizes n bytes shards i)
+    (λ n t sizes bytes₀ shards₀ i₀ bytes shards i. 64 - i)
     (λ c. search loads)
     (λ c. search loads)
     (λ c. search loads)

@@ -1,4 +1,5 @@
-use Rattle.soundness.proofs.ShardLaws.{bytes-none, bytes-at, fits-at}
+-- `shards::shard_bytes` meets its contract: the volume is found, or there are no bytes. Assumes nothing.
+use Rattle.soundness.proofs.ShardLaws.{bytes-none, bytes-at}
 use Rattle.lists.specs.AnswerLaws.{in-table}
 use borrow.Author.Needs.{needs}
 use Rattle.soundness.proofs.shards.shard_bytes.Statement.{statement}
@@ -11,8 +12,8 @@ shard-bytes-spec =
     (λ c κs. search needs)
     (λ c. search needs)
     (λ c. search needs)
-    (λ c. search (bytes-none, needs))
+    (λ c. search bytes-none)
     (λ c. search in-table)
     (λ c. search in-table)
-    (λ c κs. let a = c .before .before .before .before .before .before in fits-at (a .args .t1) (a .args .e) _ (c .before .before .before .before .find-volume .ensures) _ (a .pre) (c .before .before .i .given .1))
-    (λ c. search (bytes-at, needs)))
+    (λ c κs. search needs)
+    (λ c. search bytes-at))

@@ -1,6 +1,9 @@
+-- `shards::shard_sizes` meets its contract: after i turns the sizes of the first i entries are stored. Assumes nothing.
 use Prim.Native.Nat.{_-_}
-use native.Mathlib.Omega.{arith}
-use Rattle.soundness.proofs.ShardLaws.{SizesLoop, storing, sizes-end, divides}
+use mathlib.Core.List.{map}
+use lib.ListN.{replicate}
+use Rattle.lists.specs.ByteLoopLaws.{FillLoop, fills-of}
+use Rattle.rules.specs.Relays.{shardBytes}
 use Rattle.soundness.proofs.shards.shard_sizes.Statement.{statement}
 use Rattle.soundness.proofs.shards.shard_sizes.Tie as tie
 
@@ -8,15 +11,15 @@ pub shard-sizes-spec : {M : Type 1} → statement M
 shard-sizes-spec =
     tie.close
     (tie.spec
-    (λ volumes entries sizes₀ i₀ sizes i. SizesLoop volumes entries sizes i)
+    (λ volumes entries sizes₀ i₀ sizes i. FillLoop (replicate 64 0) 0 (map (shardBytes volumes) entries) 64 i sizes)
     (λ volumes entries sizes₀ i₀ sizes i. 64 - i)
-    (λ c. search storing)
-    (λ c. search storing)
-    (λ c. search storing)
-    (λ c κs. let a = c .before .before .before .before .before in divides (a .args .t) (a .pre .0) (a .pre .1) (c .before .before .loop .i) (omega arith))
-    (λ c. search storing)
-    (λ c. search storing)
-    (λ c. search storing)
-    (λ c. search storing)
-    (λ c. search storing)
-    (λ c. sizes-end _ _ _ _ (c .before .loop .inv) (c .loop-test .left)))
+    (λ c. search fills-of)
+    (λ c. search fills-of)
+    (λ c. search fills-of)
+    (λ c κs. search fills-of)
+    (λ c. search fills-of)
+    (λ c. search fills-of)
+    (λ c. search fills-of)
+    (λ c. search fills-of)
+    (λ c. search fills-of)
+    (λ c. search fills-of))

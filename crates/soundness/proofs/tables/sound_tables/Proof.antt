@@ -1,5 +1,7 @@
+-- `tables::sound_tables` meets its contract: each test that led to a return is one of the rule's. Assumes nothing.
 use Rattle.rules.specs.Sound.{soundTables}
-use Rattle.lists.specs.AnswerLaws.{refused, passed, said-yes}
+use Rattle.lists.specs.AnswerLaws.{refused, said-yes}
+use Rattle.soundness.proofs.Told.{contents-hold, contents-fail, tables-pass}
 use borrow.Author.Needs.{needs}
 use Rattle.soundness.proofs.tables.sound_tables.Statement.{statement}
 use Rattle.soundness.proofs.tables.sound_tables.Tie as tie
@@ -14,8 +16,6 @@ sound-tables-spec =
     (λ c κs. search needs)
     (λ c. search refused depth 9)
     (λ c κs. search needs)
-    (λ c. search refused depth 9)
-    (λ c κs. search needs)
-    (λ c. search refused depth 9)
-    (λ c κs. (said-yes _ _ (c .before .before .before .before .before .sound-volumes .ensures) (c .before .before .before .before .if2 .left), said-yes _ _ (c .before .before .before .sound-entries .ensures) (c .before .before .if3 .left)))
-    (λ c. search passed depth 9))
+    (λ c. search contents-fail)
+    (λ c κs. contents-hold _ _ _ (c .before .sound-contents .ensures) (c .if3 .left))
+    (λ c. search (tables-pass, said-yes)))

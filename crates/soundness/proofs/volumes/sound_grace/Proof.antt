@@ -1,4 +1,6 @@
+-- `volumes::sound_grace` meets its contract: each status has its own count. Assumes nothing.
 use Rattle.lists.specs.AnswerLaws.{refused, passed}
+use Rattle.soundness.proofs.Told.{by-status}
 use borrow.Author.Needs.{needs}
 use Rattle.soundness.proofs.volumes.sound_grace.Statement.{statement}
 use Rattle.soundness.proofs.volumes.sound_grace.Tie as tie
@@ -9,8 +11,8 @@ sound-grace-spec =
     (tie.spec
     (λ c. search needs)
     (λ c. search needs)
-    (λ c. rw (c .before .enum-told2 .given .1) (search refused))
+    (λ c. search (by-status, refused))
     (λ c. search needs)
-    (λ c. cc)
-    (λ c. rw (c .before .enum-told2 .given .1) (search passed))
-    (λ c. cc))
+    (λ c. search (by-status, passed))
+    (λ c. search (by-status, passed))
+    (λ c. search (by-status, passed)))
