@@ -1,13 +1,11 @@
 -- `is_digit` meets its contract: by the two tests.
-use borrow.Author.Tests.{lt-leb, le-leb}
+use Rattle.lists.specs.AnswerLaws.{checks}
 use Rattle.amount.proofs.digits.is_digit.Statement.{statement}
 use Rattle.amount.proofs.digits.is_digit.Tie as tie
 
-returns : tie.Need-returns
-returns c = rw (lt-leb 48 _ (c .if1 .taken))
-
-returns-2 : tie.Need-returns-2
-returns-2 c = rw (le-leb 48 _ (c .if1 .left))
-
 pub is-digit-spec : {M : Type 1} → statement M
-is-digit-spec = tie.close (tie.spec returns returns-2)
+is-digit-spec =
+    tie.close
+    (tie.spec
+    (λ c. search checks)  -- below 0
+    (λ c. search checks))

@@ -1,17 +1,13 @@
--- `leading_zero` meets its contract.
-use borrow.Author.Tests.{lt-ltb, le-ltb}
+-- `leading_zero` meets its contract: by the two tests.
 use borrow.Author.Needs.{needs}
+use Rattle.lists.specs.AnswerLaws.{checks}
 use Rattle.amount.proofs.reader.leading_zero.Statement.{statement}
 use Rattle.amount.proofs.reader.leading_zero.Tie as tie
 
-returns : tie.Need-returns
-returns c = rw (le-ltb 1 _ (c .if1 .taken))
-
-shared-slice-read-result : tie.Need-shared-slice-read-result
-shared-slice-read-result c = search needs
-
-returns-2 : tie.Need-returns-2
-returns-2 c = rw (lt-ltb 1 _ (c .before .if1 .left))
-
 pub leading-zero-spec : {M : Type 1} → statement M
-leading-zero-spec = tie.close (tie.spec returns shared-slice-read-result returns-2)
+leading-zero-spec =
+    tie.close
+    (tie.spec
+    (λ c. search checks)  -- at most one digit
+    (λ c. search needs)
+    (λ c. search checks))

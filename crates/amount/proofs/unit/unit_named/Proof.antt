@@ -1,71 +1,25 @@
 -- `unit_named` meets its contract: the four names are compared in the order of the definition.
 use borrow.Author.Needs.{needs}
+use Rattle.lists.specs.AnswerLaws.{goes-on, stops, said}
 use Rattle.amount.specs.Amount.{unitNamed}
 use Rattle.amount.proofs.unit.unit_named.Statement.{statement}
 use Rattle.amount.proofs.unit.unit_named.Tie as tie
 
-slice-aggregate-same-bytes : tie.Need-slice-aggregate-same-bytes
-slice-aggregate-same-bytes c = search needs
-
-same-bytes-requires : tie.Need-same-bytes-requires
-same-bytes-requires c κs = search needs
-
-returns : tie.Need-returns
-unfolding unitNamed
-returns c = rw (← c .before .same-bytes .ensures, c .if1 .taken)
-
-slice-aggregate-same-bytes-2 : tie.Need-slice-aggregate-same-bytes-2
-slice-aggregate-same-bytes-2 c = search needs
-
-same-bytes-requires-2 : tie.Need-same-bytes-requires-2
-same-bytes-requires-2 c κs = search needs
-
-returns-2 : tie.Need-returns-2
-unfolding unitNamed
-returns-2 c =
-    rw (← c .before .before .before .before .same-bytes .ensures, c .before .before .before .if1 .left, ← c .before .same-bytes2 .ensures, c .if2 .taken)
-
-slice-aggregate-same-bytes-3 : tie.Need-slice-aggregate-same-bytes-3
-slice-aggregate-same-bytes-3 c = search needs
-
-same-bytes-requires-3 : tie.Need-same-bytes-requires-3
-same-bytes-requires-3 c κs = search needs
-
-returns-3 : tie.Need-returns-3
-unfolding unitNamed
-returns-3 c =
-    rw (← c .before .before .before .before .before .before .before .same-bytes .ensures, c .before .before .before .before .before .before .if1 .left, ← c .before .before .before .before .same-bytes2 .ensures, c .before .before .before .if2 .left, ← c .before .same-bytes3 .ensures, c .if3 .taken)
-
-slice-aggregate-same-bytes-4 : tie.Need-slice-aggregate-same-bytes-4
-slice-aggregate-same-bytes-4 c = search needs
-
-same-bytes-requires-4 : tie.Need-same-bytes-requires-4
-same-bytes-requires-4 c κs = search needs
-
-returns-4 : tie.Need-returns-4
-unfolding unitNamed
-returns-4 c =
-    rw (← c .before .before .before .before .before .before .before .before .before .before .same-bytes .ensures, c .before .before .before .before .before .before .before .before .before .if1 .left, ← c .before .before .before .before .before .before .before .same-bytes2 .ensures, c .before .before .before .before .before .before .if2 .left, ← c .before .before .before .before .same-bytes3 .ensures, c .before .before .before .if3 .left, ← c .before .same-bytes4 .ensures, c .if4 .taken)
-
-returns-5 : tie.Need-returns-5
-unfolding unitNamed
-returns-5 c =
-    rw (← c .before .before .before .before .before .before .before .before .before .before .same-bytes .ensures, c .before .before .before .before .before .before .before .before .before .if1 .left, ← c .before .before .before .before .before .before .before .same-bytes2 .ensures, c .before .before .before .before .before .before .if2 .left, ← c .before .before .before .before .same-bytes3 .ensures, c .before .before .before .if3 .left, ← c .before .same-bytes4 .ensures, c .if4 .left)
-
 pub unit-named-spec : {M : Type 1} → statement M
+unfolding unitNamed
 unit-named-spec =
     tie.close
     (tie.spec
-    slice-aggregate-same-bytes
-    same-bytes-requires
-    returns
-    slice-aggregate-same-bytes-2
-    same-bytes-requires-2
-    returns-2
-    slice-aggregate-same-bytes-3
-    same-bytes-requires-3
-    returns-3
-    slice-aggregate-same-bytes-4
-    same-bytes-requires-4
-    returns-4
-    returns-5)
+    (λ c. search needs)
+    (λ c κs. search needs)
+    (λ c. search (goes-on, stops, said))  -- B
+    (λ c. search needs)
+    (λ c κs. search needs)
+    (λ c. search (goes-on, stops, said))  -- KiB
+    (λ c. search needs)
+    (λ c κs. search needs)
+    (λ c. search (goes-on, stops, said))  -- MiB
+    (λ c. search needs)
+    (λ c κs. search needs)
+    (λ c. search (goes-on, stops, said))  -- GiB
+    (λ c. search (goes-on, stops, said)))  -- Nothing

@@ -1,34 +1,18 @@
--- `ending` meets its contract, unit by unit.
+-- `ending` meets its contract: each return is that of its arm.
 use borrow.Author.Needs.{needs}
-use lib.Dec.{lit≤}
+use Rattle.amount.proofs.WriteAnswers.{unit-name}
 use Rattle.amount.proofs.writer.ending.Statement.{statement}
 use Rattle.amount.proofs.writer.ending.Tie as tie
-
-enum-told : tie.Need-enum-told
-enum-told c = search needs
-
-enum-told-2 : tie.Need-enum-told-2
-enum-told-2 c = search needs
-
-enum-told-3 : tie.Need-enum-told-3
-enum-told-3 c = search needs
-
-enum-told-4 : tie.Need-enum-told-4
-enum-told-4 c = search needs
-
-returns : tie.Need-returns
-returns c = (rw (c .enum-told .given .1), lit≤ tt, lit≤ tt)
-
-returns-2 : tie.Need-returns-2
-returns-2 c = (rw (c .enum-told2 .given .1), lit≤ tt, lit≤ tt)
-
-returns-3 : tie.Need-returns-3
-returns-3 c = (rw (c .enum-told3 .given .1), lit≤ tt, lit≤ tt)
-
-returns-4 : tie.Need-returns-4
-returns-4 c = (rw (c .enum-told4 .given .1), lit≤ tt, lit≤ tt)
 
 pub ending-spec : {M : Type 1} → statement M
 ending-spec =
     tie.close
-    (tie.spec enum-told enum-told-2 enum-told-3 enum-told-4 returns returns-2 returns-3 returns-4)
+    (tie.spec
+    (λ c. search needs)
+    (λ c. search needs)
+    (λ c. search needs)
+    (λ c. search needs)
+    (λ c. search (unit-name, needs))  -- B
+    (λ c. search (unit-name, needs))  -- KiB
+    (λ c. search (unit-name, needs))  -- MiB
+    (λ c. search (unit-name, needs)))  -- GiB
