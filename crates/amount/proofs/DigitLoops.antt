@@ -2,7 +2,7 @@
 -- step and its end. Assumes nothing.
 use mathlib.Core.Path.{_≡_, refl, sym, _∙_}
 use mathlib.Core.Bool.{Bool, true, false, not}
-use mathlib.Core.List.{List, []}
+use mathlib.Core.List.{List}
 use Prim.Native.Nat.{ℕ, _+_, _-_, _*_, _^_, _<_, _≤_}
 use native.Mathlib.Nat.{pow-suc, pow-le-pow-right}
 use native.Mathlib.Numerals.{add-one}
@@ -10,7 +10,7 @@ use native.Mathlib.Omega.{arith}
 use borrow.Author.Needs.{needs}
 use borrow.Author.Tests.{not-true, not-false}
 use lib.Dec.{lit<}
-use lib.ListN.{length, drop, getD, drop-of-length-le}
+use lib.ListN.{length, getD, drop-of-length-le}
 use mir.Syntax.{w64}
 use mir.Val.{Fits}
 use Rattle.amount.specs.declared.DigitRun.{DigitRun}
@@ -38,6 +38,9 @@ module _ (s : List ℕ) (most : ℕ) where
     unfolding leading
     run-end r k e = e ∙ sym (scanned-end most (h .passed) (rw (drop-of-length-le s k)) (h .few))
 
+    pub run-tens : (i ≡ most → ⊥) → most ≤ 11 → Fits w64 (v * 10)
+    run-tens o m = let p = ten-most i 10 (omega arith) in record { fits = omega (arith, h .passed .below) }
+
     -- b says whether the byte at i is a digit
     module _ (b : Bool) (k : i < length s) (e : b ≡ isDigit (getD s i 0)) where
       pub run-stop : (r : DigitRun) → not b ≡ true → r ≡ endedRun i v → r ≡ runOf most (leading s)
@@ -55,12 +58,8 @@ module _ (s : List ℕ) (most : ℕ) where
       more : not b ≡ false → Scanned s (i + 1) (v * 10 + (getD s i 0 - 48))
       more f = scanned-on (h .passed) k e (not-false b f)
 
-      module _ (o : i ≡ most → ⊥) (m : most ≤ 11) where
-        pub run-fits : not b ≡ false → Fits w64 (v * 10 + (getD s i 0 - 48))
-        run-fits f = let p = ten-most (i + 1) 11 (omega arith) in record { fits = omega (arith, more f .below) }
-
-        pub run-tens : Fits w64 (v * 10)
-        run-tens = let p = ten-most i 10 (omega arith) in record { fits = omega (arith, h .passed .below) }
+      pub run-fits : not b ≡ false → (i ≡ most → ⊥) → most ≤ 11 → Fits w64 (v * 10 + (getD s i 0 - 48))
+      run-fits f o m = let p = ten-most (i + 1) 11 (omega arith) in record { fits = omega (arith, more f .below) }
 
       pub run-step : not b ≡ false → (i ≡ most → ⊥) → RunLoop s most (i + 1) (v * 10 + (getD s i 0 - 48))
       run-step f o = record { few = omega arith; passed = more f }

@@ -1,13 +1,13 @@
 -- The loops and the answers of the writer: each law ends in what the code owes, and its premises are what the code knows there. Assumes nothing.
-use mathlib.Core.Path.{_≡_, refl, sym, _∙_, ap}
+use mathlib.Core.Path.{_≡_, refl, sym, _∙_}
 use mathlib.Core.Bool.{Bool, true, false}
 use mathlib.Core.List.{List, _∷_, _++_}
-use Prim.Native.Nat.{ℕ, _+_, _-_, _*_, _/_, _%_, _^_, _<_, _≤_}
+use Prim.Native.Nat.{ℕ, _+_, _-_, _/_, _%_, _^_, _<_, _≤_}
 use native.Mathlib.Nat.{zero-add, pow-le-pow-right, lt-of-lt-of-le}
 use native.Mathlib.Omega.{arith}
 use borrow.Author.Needs.{needs}
 use lib.Dec.{lit<, ltb}
-use lib.ListN.{length, take, drop, getD, set, length-set, length-drop}
+use lib.ListN.{length, drop, getD, set, length-set, length-drop}
 use lib.Seq.{take-all, getD-drop}
 use Rattle.lists.specs.ByteLoopLaws.{FillLoop, fill-start, fill-step-first, fill-end, fills}
 use Rattle.amount.specs.declared.ByteUnit.{ByteUnit}
@@ -19,15 +19,14 @@ use Rattle.amount.specs.Amount.{limit, space, unlimitedText, sizeOf, nam
 use Rattle.amount.specs.Digits.{digit, decimal}
 use Rattle.amount.specs.Steps.{spelling}
 use Rattle.amount.specs.Writing.{aboveLimit, bufferAfter, textOf, unitFor, writtenOf}
-use Rattle.amount.specs.WriteLaws.{digit-placed, number-placed, digits-room, spelled-length, count-digits, written-above, written-short, written-whole}
-use Rattle.amount.proofs.CountAnswers.{size-some}
+use Rattle.amount.specs.WriteLaws.{digit-placed, number-placed, digits-room, spelled-length, written-above, written-short, written-whole}
 
 -- the arms of a match on a cap or a unit
 pub count-above : (cap : Cap) (n : ℕ) → cap ≡ Bytes n → ltb limit n ≡ aboveLimit cap
 count-above cap n e = rw e
 
-pub unit-name : (u v : ByteUnit) (l : List ℕ) → u ≡ v → l ≡ space ∷ nameOf v → l ≡ space ∷ nameOf u
-unit-name u v l e h = rw e h
+pub by-unit : (u v : ByteUnit) (l : List ℕ) → u ≡ v → l ≡ space ∷ nameOf v → l ≡ space ∷ nameOf u
+by-unit u v l e h = rw e h
 
 -- the digits of n in front of the bytes from s on: those still to come are the digits of rest, and there is room for them
 pub record NumberLoop (n : ℕ) (bytes₀ : List ℕ) (s : ℕ) (bytes : List ℕ) (i rest : ℕ) : Type 0 where

@@ -1,28 +1,24 @@
 -- Laws of the definitions in Digits.antt.
 use mathlib.Core.Path.{_≡_, refl, ap, sym, _∙_}
-use mathlib.Core.Bool.{Bool, true, false, _&&_, and-false, false≢true, cond}
+use mathlib.Core.Bool.{Bool, true, false, cond}
 use mathlib.Core.List.{List, [], _∷_, _++_}
-use Prim.Native.Nat.{ℕ, suc, _+_, _-_, _*_, _^_, _<_, _≤_}
+use Prim.Native.Nat.{ℕ, _+_, _-_, _*_, _^_, _<_, _≤_}
 use native.Mathlib.Nat.{add-assoc, add-mul, mul-assoc, mul-one, pow-succ', mul-le-mul-right, zero-add, add-zero}
 use native.Mathlib.Numerals.{add-one}
 use native.Mathlib.Omega.{arith}
-use borrow.Author.Tests.{eqb-true, eq-eqb, leb-true}
-use lib.Dec.{eqb, leb, lit<}
+use borrow.Author.Tests.{leb-true}
+use lib.Dec.{leb, lit<}
 use lib.ListN.{length, take, drop, getD, length-append}
 use lib.Seq.{drop-cons, take-append-seam, drop-append-seam}
+use Rattle.lists.specs.BoolLaws.{and-left, and-right}
 use Rattle.amount.specs.Digits.{isDigit, leading, following, numberAfter, number}
-
--- Both of two tests that hold together.
-pub both : (a b : Bool) → (a && b) ≡ true → (a ≡ true) × (b ≡ true)
-both true b h = (refl, h)
-both false b h = absurd (false≢true h)
 
 -- A digit lies from 48 to 57.
 pub digit-low : (b : ℕ) → isDigit b ≡ true → 48 ≤ b
-digit-low b h = leb-true 48 b (both (leb 48 b) (leb b 57) h .0)
+digit-low b h = leb-true 48 b (and-left (leb 48 b) (leb b 57) h)
 
 pub digit-high : (b : ℕ) → isDigit b ≡ true → b ≤ 57
-digit-high b h = leb-true b 57 (both (leb 48 b) (leb b 57) h .1)
+digit-high b h = leb-true b 57 (and-right (leb 48 b) (leb b 57) h)
 
 -- The leading digits and the rest are the text.
 pub leading-following : (t : List ℕ) → leading t ++ following t ≡ t

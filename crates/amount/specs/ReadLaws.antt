@@ -2,28 +2,23 @@
 use mathlib.Core.Path.{_≡_, refl, sym}
 use mathlib.Core.Bool.{Bool, true, false, _&&_, cond, and-false}
 use mathlib.Core.List.{List, [], _∷_}
-use Prim.Native.Nat.{ℕ, suc, _+_, _-_, _*_, _^_, _<_, _≤_}
+use Prim.Native.Nat.{ℕ, suc, _+_, _*_, _^_, _<_, _≤_}
 use native.Mathlib.Nat.{le-of-eq}
 use native.Mathlib.Numerals.{add-one}
 use native.Mathlib.Omega.{arith}
 use borrow.Author.Tests.{leb-true}
 use lib.Dec.{eqb, leb, ltb}
-use lib.ListN.{length, take, drop, getD, length-drop, drop-of-length-le}
-use lib.Seq.{take-all, drop-cons}
+use lib.ListN.{length, drop, getD, drop-of-length-le}
+use lib.Seq.{drop-cons}
 use Rattle.amount.specs.declared.DigitRun.the-variants.{Digits, Outside}
-use Rattle.amount.specs.declared.ReadAmount.the-variants.{Read, Refused}
+use Rattle.amount.specs.declared.ReadAmount.the-variants.{Refused}
 use Rattle.amount.specs.declared.UnitFound.{UnitFound}
 use Rattle.amount.specs.declared.UnitFound.the-variants.{Is, Nothing}
 use Rattle.amount.specs.Digits.{isDigit, leading, following, number, numberAfter}
-use Rattle.amount.specs.DigitLaws.{both, number-append, number-after, number-below, drop-leading, length-leading}
-use Rattle.lists.specs.Bytes.{sameBytes}
-use Rattle.amount.specs.declared.Cap.the-variants.{Unlimited}
-use Rattle.amount.specs.Amount.{unlimitedText, amountOf, fractionDigits, noAmount, within, leadingZero, isMark, unitAfter, withUnit, afterWhole, parse, amountParsed}
+use Rattle.amount.specs.DigitLaws.{number-append, number-after, number-below, drop-leading}
+use Rattle.lists.specs.BoolLaws.{and-left, and-right}
+use Rattle.amount.specs.Amount.{fractionDigits, noAmount, within, leadingZero, isMark, unitAfter, withUnit, afterWhole, parse, amountParsed}
 use Rattle.amount.specs.Steps.{runOf, sized, afterMark}
-
--- A part of a slice that goes on to its end.
-pub part-end : (t : List ℕ) (n : ℕ) → take (length t - n) (drop n t) ≡ drop n t
-part-end t n = take-all (length t - n) (drop n t) (omega (arith, length-drop n t))
 
 -- A run of digits that was found.
 pub record Run (most : ℕ) (d : List ℕ) (n v : ℕ) : Type 0 where
@@ -49,9 +44,8 @@ run-missed most d e = go (within most (length d)) refl e
 
 pub run-most : {most n v : ℕ} {d : List ℕ} → Run most d n v → (1 ≤ n) × (n ≤ most)
 run-most {most} {n} {v} {d} r =
-    let p = both (leb 1 (length d)) (leb (length d) most) (r .fits) in
-    let low = leb-true 1 (length d) (p .0) in
-    let high = leb-true (length d) most (p .1) in
+    let low = leb-true 1 (length d) (and-left (leb 1 (length d)) (leb (length d) most) (r .fits)) in
+    let high = leb-true (length d) most (and-right (leb 1 (length d)) (leb (length d) most) (r .fits)) in
     rw (← r .count) (low, high)
 
 pub run-below : (most : ℕ) (t : List ℕ) {n v : ℕ} → Run most (leading t) n v → v < 10 ^ n
@@ -71,16 +65,6 @@ first-leading (b ∷ t) h = go (isDigit b) h
 pub amount-sized : (w f : List ℕ) (r : UnitFound) → amountParsed (withUnit w f r) ≡ sized (number w * 10 ^ length f + number f) (length f) r
 amount-sized w f (Is u) = rw (number-append 0 w f, number-after (number w) f)
 amount-sized w f Nothing = refl
-
--- The word, and every other text.
-module _ (t : List ℕ) {b : Bool} (e : b ≡ sameBytes t unlimitedText) where
-  pub word-read : b ≡ true → amountOf t ≡ Read Unlimited
-  unfolding amountOf
-  word-read h = rw (← e, h)
-
-  pub word-other : b ≡ false → amountOf t ≡ amountParsed (parse t)
-  unfolding amountOf
-  word-other h = rw (← e, h)
 
 -- Too few or too many whole digits.
 pub parse-outside : (t : List ℕ) → runOf 11 (leading t) ≡ Outside → parse t ≡ noAmount
@@ -102,9 +86,6 @@ module _ (t : List ℕ) {n whole : ℕ} (run : Run 11 (leading t) n whole) where
 
 -- What may follow the whole digits.
 module _ (t : List ℕ) {n whole : ℕ} (en : n ≡ length (leading t)) (ew : whole ≡ number (leading t)) where
-  pub whole-within-text : n ≤ length t
-  whole-within-text = rw en (length-leading t)
-
   rest : following t ≡ drop n t
   rest = rw en (sym (drop-leading t))
 

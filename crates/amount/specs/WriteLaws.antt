@@ -1,14 +1,13 @@
--- Laws for the writer: digits placed in front of a text, and a text copied to the start of a buffer.
-use mathlib.Core.Path.{_≡_, ap, _∙_}
+-- Laws for the writer: digits placed in front of a text, and the answers of writing.
+use mathlib.Core.Path.{_≡_, ap}
 use mathlib.Core.Bool.{Bool, true, false}
 use mathlib.Core.List.{List, _∷_, _++_, append-assoc}
-use Prim.Native.Nat.{ℕ, zero, suc, _+_, _-_, _*_, _/_, _%_, _^_, _<_, _≤_}
+use Prim.Native.Nat.{ℕ, zero, suc, _-_, _*_, _/_, _%_, _^_, _<_, _≤_}
 use native.Mathlib.Nat.{pow-suc, div-le-self}
-use native.Mathlib.Numerals.{add-one}
 use native.Mathlib.Omega.{arith}
 use borrow.Author.Tests.{ltb-false, lt-ltb, le-ltb}
-use lib.ListN.{length, take, drop, set, getD, length-drop}
-use lib.Seq.{set-split, set-at, drop-at, drop-cons, take-suc, length-take-le, getD-drop}
+use lib.ListN.{length, take, drop, set, length-drop}
+use lib.Seq.{set-split, drop-at, length-take-le}
 use Rattle.amount.specs.declared.Cap.{Cap}
 use Rattle.amount.specs.declared.Cap.the-variants.{Bytes}
 use Rattle.amount.specs.declared.Spelling.{Spelling}
@@ -43,17 +42,6 @@ digits-room n (suc (suc j)) h m =
     let e : suc (suc j) - 1 ≡ suc j = omega arith in
     let below : n < 10 ^ suc j * 10 = rw pow-suc at h in
     (omega arith, rw e (omega arith))
-
--- A copy of s to the start of d that has come as far as i: one byte more.
-pub copied-on : (s d : List ℕ) (i : ℕ) → i < length s → i < length d → set (take i s ++ drop i d) i (getD s i 0) ≡ take (i + 1) s ++ drop (i + 1) d
-copied-on s d i h k =
-    rw (drop-cons d i 0 k) (set-at (take i s) (getD d i 0) (drop (suc i) d) (getD s i 0) i (length-take-le i s (omega arith))
-    ∙ rw (add-one, take-suc s i 0 h, append-assoc))
-
--- The same, where s is what stands in l from start on.
-pub spelled-on : (l d : List ℕ) (start i : ℕ) → start + i < length l → i < length d
-    → set (take i (drop start l) ++ drop i d) i (getD l (start + i) 0) ≡ take (i + 1) (drop start l) ++ drop (i + 1) d
-spelled-on l d start i h k = rw (← getD-drop start l i 0) (copied-on (drop start l) d i (omega (arith, length-drop start l)) k)
 
 -- A count within the limit has at most 11 digits, in any unit.
 pub count-digits : {cap : Cap} {n : ℕ} (size : ℕ) → cap ≡ Bytes n → aboveLimit cap ≡ false → n / size < 10 ^ 11

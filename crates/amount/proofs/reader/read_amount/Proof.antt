@@ -1,6 +1,6 @@
 -- `read_amount` meets its contract: the word, or what follows the whole digits.
 use borrow.Author.Needs.{needs}
-use Rattle.lists.specs.AnswerLaws.{stops, goes-on, said}
+use Rattle.lists.specs.AnswerLaws.{checks, said}
 use Rattle.amount.specs.Amount.{amountOf}
 use Rattle.amount.proofs.ReadAnswers.{run-in, run-count, run-number, whole-none, zero-first, whole-read}
 use Rattle.amount.proofs.reader.read_amount.Statement.{statement}
@@ -13,12 +13,12 @@ read-amount-spec =
     (tie.spec
     (λ c. search needs)
     (λ c κs. search needs)
-    (λ c. search (stops, said))  -- no limit
+    (λ c. search (checks, said))  -- no limit
     (λ c κs. search needs)
     (λ c. search needs)
     (λ c. search needs)
-    (λ c. search (goes-on, said, whole-none))  -- TEXT, by the number of digits
+    (λ c. search (checks, said, whole-none))  -- TEXT, by the number of digits
     (λ c κs. search run-in)
-    (λ c. search (goes-on, said, zero-first))  -- TEXT, by a leading 0
+    (λ c. search (checks, said, zero-first))  -- TEXT, by a leading 0
     (λ c κs. search (run-count, run-number))
-    (λ c. search (goes-on, said, whole-read)))
+    (λ c. search (checks, said, whole-read)))

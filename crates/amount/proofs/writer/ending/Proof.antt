@@ -1,6 +1,6 @@
 -- `ending` meets its contract: each return is that of its arm.
 use borrow.Author.Needs.{needs}
-use Rattle.amount.proofs.WriteAnswers.{unit-name}
+use Rattle.amount.proofs.WriteAnswers.{by-unit}
 use Rattle.amount.proofs.writer.ending.Statement.{statement}
 use Rattle.amount.proofs.writer.ending.Tie as tie
 
@@ -12,7 +12,7 @@ ending-spec =
     (λ c. search needs)
     (λ c. search needs)
     (λ c. search needs)
-    (λ c. search (unit-name, needs))  -- B
-    (λ c. search (unit-name, needs))  -- KiB
-    (λ c. search (unit-name, needs))  -- MiB
-    (λ c. search (unit-name, needs)))  -- GiB
+    (λ c. search (by-unit, needs))  -- B
+    (λ c. search (by-unit, needs))  -- KiB
+    (λ c. search (by-unit, needs))  -- MiB
+    (λ c. search (by-unit, needs)))  -- GiB

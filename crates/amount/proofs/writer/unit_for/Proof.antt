@@ -1,6 +1,6 @@
 -- `unit_for` meets its contract: the tests stand in the order of the definition.
 use borrow.Author.Tests.{eq-eqb, ne-eqb}
-use Rattle.lists.specs.AnswerLaws.{goes-on, stops}
+use Rattle.lists.specs.AnswerLaws.{checks}
 use Rattle.amount.specs.Writing.{unitFor}
 use Rattle.amount.proofs.writer.unit_for.Statement.{statement}
 use Rattle.amount.proofs.writer.unit_for.Tie as tie
@@ -10,8 +10,8 @@ unfolding unitFor
 unit-for-spec =
     tie.close
     (tie.spec
-    (λ c. search (goes-on, stops, eq-eqb, ne-eqb))  -- 0
-    (λ c. search (goes-on, stops, eq-eqb, ne-eqb))  -- GiB
-    (λ c. search (goes-on, stops, eq-eqb, ne-eqb))  -- MiB
-    (λ c. search (goes-on, stops, eq-eqb, ne-eqb))  -- KiB
-    (λ c. search (goes-on, stops, eq-eqb, ne-eqb)))  -- B
+    (λ c. search (checks, eq-eqb, ne-eqb))  -- 0
+    (λ c. search (checks, eq-eqb, ne-eqb))  -- GiB
+    (λ c. search (checks, eq-eqb, ne-eqb))  -- MiB
+    (λ c. search (checks, eq-eqb, ne-eqb))  -- KiB
+    (λ c. search (checks, eq-eqb, ne-eqb)))  -- B
