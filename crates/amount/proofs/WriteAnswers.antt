@@ -82,6 +82,9 @@ pub copy-step : (out₀ l : List ℕ) (s n i : ℕ) (out : List ℕ) → FillLoo
     → FillLoop out₀ 0 (drop s l) n (i + 1) (set out i (getD l (s + i) 0))
 copy-step out₀ l s n i out h k = rw (getD-drop s l i 0) at (fill-step-first out₀ (drop s l) n i out 0 h k)
 
+pub copy-in : (out₀ s : List ℕ) (n i : ℕ) (out : List ℕ) → FillLoop out₀ 0 s n i out → i < n → i < length out
+copy-in out₀ s n i out h k = omega arith
+
 pub copy-start : (out₀ l : List ℕ) (s : ℕ) → length l ≡ 16 → 16 - s ≤ length out₀ → FillLoop out₀ 0 (drop s l) (16 - s) 0 out₀
 copy-start out₀ l s e h = fill-start out₀ 0 (drop s l) (16 - s) (omega arith) (omega (arith, length-drop s l))
 
@@ -91,7 +94,7 @@ copy-end out₀ l s i out e h k =
     fill-end out₀ 0 (drop s l) (16 - s) i out h k
     ∙ rw (zero-add, take-all (16 - s) (drop s l) (omega (arith, length-drop s l)))
 
-pub ruleset copies = (copy-step, copy-end, copy-start, fills)
+pub ruleset copies = (copy-step, copy-end, copy-in, copy-start, fills)
 
 -- the answers of writing, each with the buffer that it leaves: a says whether the cap is above the limit, and t is its text
 module _ (cap : Cap) (buf : List ℕ) (a : Bool) (e : a ≡ aboveLimit cap) where

@@ -15,5 +15,5 @@ after-mark-spec =
     (λ c. search run-in)
     (λ c. search run-in)
     (λ c. search needs)
-    (λ c κs. search (run-few, run-less))
+    (λ c κs. search (run-few, run-less, needs))
     (λ c. search fraction-read))
