@@ -1,9 +1,9 @@
 -- Reading the fields of a record one after another, as the loop does. Assumes nothing.
 use mathlib.Core.Path.{_≡_, refl, sym, _∙_, ap}
-use mathlib.Core.Bool.{Bool, true, false}
-use mathlib.Core.List.{List, [], _∷_, _++_}
+use mathlib.Core.Bool.{true}
+use mathlib.Core.List.{List, [], _∷_}
 use mathlib.Core.Option.{Option, none, some}
-use Prim.Native.Nat.{ℕ, zero, suc, _+_, _-_, _<_, _≤_}
+use Prim.Native.Nat.{ℕ, suc, _+_, _<_, _≤_}
 use native.Mathlib.Omega.{arith}
 use lib.Pow.{areBytes}
 use lib.ListN.{length, drop, getD, length-append, length-drop, drop-of-length-le, List·getD-append}
@@ -12,16 +12,14 @@ use Rattle.journal.specs.declared.Kind.{Kind}
 use Rattle.journal.specs.declared.Field.{Field}
 use Rattle.journal.specs.declared.Field.the-variants as its
 use Rattle.journal.specs.declared.Record.{Record}
-use Rattle.journal.specs.declared.Reading.{Reading}
 use Rattle.journal.specs.declared.Reading.the-variants as answer
-use Rattle.journal.specs.declared.Step.{Step}
 use Rattle.journal.specs.declared.Step.the-variants.{Next, Refused}
 use Rattle.journal.specs.Fields.{Decoded, nothing, found, onFound, inFront, decode, decodeAll, encode, ValueOf, ValuesOf}
 use Rattle.journal.specs.FieldLaws.{decode-taken, bytes-drop}
 use Rattle.journal.specs.Records.{Version, v01, formatOf, formsOf, fieldsOf, kinds, kindAmong, whole, parse, parseKind}
-use Rattle.journal.specs.Places.{RECORD, blank, place, placeAll, readingOf, readAt}
+use Rattle.journal.specs.Places.{RECORD, blank, place, readingOf, readAt}
 use Rattle.journal.specs.PlaceLaws.{past}
-use Rattle.journal.specs.Table.{named, namedBy, padded, fieldsMost, stepTo, ending, readOn}
+use Rattle.journal.specs.Table.{named, namedBy, padded, stepTo, ending, readOn}
 use Rattle.journal.specs.declared.Named.the-variants as a
 
 -- what the first field of a list leaves to the others

@@ -1,19 +1,17 @@
 -- The steps of reading one field, as the code takes them. Assumes nothing.
 use mathlib.Core.Path.{_≡_, refl, sym, _∙_, ap}
-use mathlib.Core.Bool.{Bool, true, false, _&&_, cond}
-use mathlib.Core.List.{List, [], _∷_, _++_}
-use Prim.Native.Nat.{ℕ, zero, suc, _+_, _-_, _*_, _^_, _<_, _≤_}
-use native.Mathlib.Nat.{add-assoc, add-zero}
+use mathlib.Core.Bool.{Bool, true, false}
+use mathlib.Core.List.{List, []}
+use Prim.Native.Nat.{ℕ, _+_, _^_, _<_, _≤_}
 use native.Mathlib.Omega.{arith}
-use lib.Dec.{eqb, leb, ltb}
+use lib.Dec.{leb, ltb}
 use lib.Pow.{areBytes}
-use lib.ListN.{length, take, drop, length-append, length-drop}
-use lib.Seq.{length-take-le, drop-drop}
-use borrow.Author.Tests.{eq-eqb, ne-eqb, le-leb, lt-leb, leb-true, leb-false, ltb-true}
+use lib.ListN.{length, take, drop, length-append}
+use lib.Seq.{length-take-le}
+use borrow.Author.Tests.{le-leb, lt-leb, leb-true, leb-false, ltb-true}
 use Rattle.amount.specs.declared.Cap.{Cap}
 use Rattle.amount.specs.declared.Cap.the-variants.{Unlimited, Bytes}
 use Rattle.rules.specs.declared.Mode.{Mode}
-use Rattle.rules.specs.declared.Mode.the-variants as right
 use Rattle.journal.specs.declared.Field.{Field}
 use Rattle.journal.specs.declared.Field.the-variants as its
 use Rattle.journal.specs.declared.Record.{Record}
@@ -22,11 +20,11 @@ use Rattle.journal.specs.declared.Step.{Step}
 use Rattle.journal.specs.declared.Step.the-variants.{Next, Refused}
 use Rattle.journal.specs.Numbers.{bytesOf, numberOf}
 use Rattle.journal.specs.NumberLaws.{length-bytesOf, numberOf-lt}
-use Rattle.journal.specs.Fields.{Format, number, text, bytes, cap, mode, Decoded, nothing, found, onFound, part, asNumber, asText, asCap, asBytes, asMode, decodeNumber, decodeText, decode, encode, ValueOf}
+use Rattle.journal.specs.Fields.{text, cap, mode, Decoded, nothing, found, onFound, part, asText, asCap, asMode, decodeNumber, decodeText, decode, encode, ValueOf}
 use Rattle.journal.specs.FieldLaws.{bytes-take}
 use Rattle.journal.specs.Records.{v01, formatOf}
 use Rattle.journal.specs.Places.{place}
-use Rattle.journal.specs.Table.{numberAt, asAnswer, widthOf, placeNumber, stepNumber, stepTo}
+use Rattle.journal.specs.Table.{numberAt, asAnswer, widthOf, stepNumber, stepTo}
 use Rattle.journal.proofs.ByteLaws.{part-there, part-cut}
 
 by-cases : {C : Type 0} (b : Bool) → (b ≡ true → C) → (b ≡ false → C) → C
