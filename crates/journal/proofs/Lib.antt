@@ -4,6 +4,7 @@ pub mod StepLaws
 pub mod FieldReads
 pub mod ReadLaws
 pub mod FrameLaws
+pub mod PartLaws
 pub mod OverLaws
 pub mod SizeLaws
 pub mod WriteLaws

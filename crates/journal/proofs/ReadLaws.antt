@@ -4,23 +4,31 @@ use mathlib.Core.Bool.{true}
 use mathlib.Core.List.{List, [], _∷_}
 use mathlib.Core.Option.{Option, none, some}
 use Prim.Native.Nat.{ℕ, suc, _+_, _<_, _≤_}
+use native.Mathlib.Numerals.{add-one}
 use native.Mathlib.Omega.{arith}
 use lib.Pow.{areBytes}
 use lib.ListN.{length, drop, getD, length-append, length-drop, drop-of-length-le, List·getD-append}
 use lib.Seq.{drop-cons}
+use mir.Syntax.{w8}
+use mir.Val.{Fits}
+use borrow.Author.Needs.{needs}
 use Rattle.journal.specs.declared.Kind.{Kind}
 use Rattle.journal.specs.declared.Field.{Field}
 use Rattle.journal.specs.declared.Field.the-variants as its
 use Rattle.journal.specs.declared.Record.{Record}
+use Rattle.journal.specs.declared.Reading.{Reading}
 use Rattle.journal.specs.declared.Reading.the-variants as answer
+use Rattle.journal.specs.declared.Step.{Step}
 use Rattle.journal.specs.declared.Step.the-variants.{Next, Refused}
 use Rattle.journal.specs.Fields.{Decoded, nothing, found, onFound, inFront, decode, decodeAll, encode, ValueOf, ValuesOf}
 use Rattle.journal.specs.FieldLaws.{decode-taken, bytes-drop}
 use Rattle.journal.specs.Records.{Version, v01, formatOf, formsOf, fieldsOf, kinds, kindAmong, whole, parse, parseKind}
 use Rattle.journal.specs.Places.{RECORD, blank, place, readingOf, readAt}
 use Rattle.journal.specs.PlaceLaws.{past}
-use Rattle.journal.specs.Table.{named, namedBy, padded, stepTo, ending, readOn}
+use Rattle.journal.specs.Table.{named, namedBy, padded, fieldsMost, stepTo, ending, readOn}
+use Rattle.journal.specs.declared.Named.{Named}
 use Rattle.journal.specs.declared.Named.the-variants as a
+use Rattle.journal.proofs.ByteLaws.{bytes-known}
 
 -- what the first field of a list leaves to the others
 front : (v : Version) (f : Field) (fs : List Field) (at : ℕ) (r : Record) (x : ValueOf (formatOf v f)) (d : Decoded (ValuesOf (formsOf v fs)))
@@ -123,3 +131,70 @@ pub read-strange : (l : List ℕ) → 1 ≤ length l → a.Unknown ≡ named (ge
 unfolding named
 read-strange [] h e = absurd (omega arith)
 read-strange (b ∷ l) h e = read-unknown b l (named-none (kindAmong b (kinds v01)) e)
+
+-- the returns of `read_record`: m is what `kind_named` said of the first byte, and x what the kind's fields gave
+pub empty-record : (l : List ℕ) → length l < 1 → answer.Refused RECORD ≡ readAt v01 l
+empty-record l h = sym (read-empty l h)
+
+module _ (l : List ℕ) (h : 1 ≤ length l) (m : Named) (e : m ≡ named (getD l 0 0)) where
+  pub strange-record : m ≡ a.Unknown → answer.Refused RECORD ≡ readAt v01 l
+  strange-record u = sym (read-strange l h (sym u ∙ e))
+
+  pub known-record : (k : Kind) (x : Reading) → m ≡ a.Kind k → x ≡ readOn v01 (fieldsOf v01 k) 1 (blank k) l → x ≡ readAt v01 l
+  known-record k x u p = p ∙ sym (read-known l k h (sym u ∙ e))
+
+-- the loop over the fields of a kind: what those from i on make of r, from the place on, is what all of them make of the blank record r₀
+pub record ReadLoop (l : List ℕ) (r₀ : Record) (fields : List Field) (count : ℕ) (r : Record) (at i : ℕ) : Type 0 where
+  pub table : fields ≡ padded (fieldsOf v01 (r₀ .kind))
+  pub all : count ≡ length (fieldsOf v01 (r₀ .kind))
+  pub few : count ≤ fieldsMost
+  pub place : i ≤ count
+  pub within : at ≤ length l
+  pub each : (j : ℕ) → Fits w8 (getD l j 0)
+  pub rest : readOn v01 (fieldsOf v01 (r₀ .kind)) 1 r₀ l ≡ readOn v01 (drop i (fieldsOf v01 (r₀ .kind))) at r l
+
+module _ (k : Kind) (l : List ℕ) (r₀ : Record) (fields : List Field) (count : ℕ) (b : r₀ ≡ blank k) where
+  pub fields-start : fields ≡ padded (fieldsOf v01 k) → count ≡ length (fieldsOf v01 k) → count ≤ fieldsMost → 1 ≤ length l → ((j : ℕ) → Fits w8 (getD l j 0))
+      → ReadLoop l r₀ fields count r₀ 1 0
+  fields-start t n m h e =
+      record { table = rw b t; all = rw b n; few = m; place = omega arith; within = h; each = e; rest = refl }
+
+  module _ (r : Record) (at i : ℕ) (h : ReadLoop l r₀ fields count r at i) where
+    left : readOn v01 (fieldsOf v01 k) 1 (blank k) l ≡ readOn v01 (drop i (fieldsOf v01 (r₀ .kind))) at r l
+    left = ap (λ (q : Record). readOn v01 (fieldsOf v01 (q .kind)) 1 q l) (sym b) ∙ h .rest
+
+    none-left : count ≤ i → readOn v01 (fieldsOf v01 k) 1 (blank k) l ≡ readOn v01 [] at r l
+    none-left c = left ∙ rw (drop-of-length-le (fieldsOf v01 (r₀ .kind)) {i = i} (omega arith))
+
+    pub fields-over : count ≤ i → at < length l → answer.Refused RECORD ≡ readOn v01 (fieldsOf v01 k) 1 (blank k) l
+    fields-over c w = sym (none-left c ∙ left-over v01 at r l w)
+
+    pub fields-end : count ≤ i → length l ≤ at → answer.Fits r ≡ readOn v01 (fieldsOf v01 k) 1 (blank k) l
+    fields-end c w = sym (none-left c ∙ ended v01 at r l w)
+
+-- s is what the reader of field i said
+module _ (l : List ℕ) (r₀ : Record) (fields : List Field) (count : ℕ) (r : Record) (at i : ℕ) (h : ReadLoop l r₀ fields count r at i) (c : i < count) (s : Step)
+    (e : s ≡ stepTo v01 (getD fields i its.Account) at r (decode (formatOf v01 (getD fields i its.Account)) (drop at l))) where
+  here : drop i (fieldsOf v01 (r₀ .kind)) ≡ getD fields i its.Account ∷ drop (suc i) (fieldsOf v01 (r₀ .kind))
+  here = rw (h .table) (field-at (fieldsOf v01 (r₀ .kind)) i (omega arith))
+
+  pub fields-stop : (k : Kind) → r₀ ≡ blank k → s ≡ Refused → answer.Refused RECORD ≡ readOn v01 (fieldsOf v01 k) 1 (blank k) l
+  fields-stop k b u =
+      sym (left k l r₀ fields count b r at i h ∙ rw here (stopped v01 (getD fields i its.Account) (drop (suc i) (fieldsOf v01 (r₀ .kind))) at r l (sym u ∙ e)))
+
+  pub fields-step : (q : Record) (next : ℕ) → s ≡ Next q next → ReadLoop l r₀ fields count q next (i + 1)
+  fields-step q next u =
+      let p = passed v01 (getD fields i its.Account) (drop (suc i) (fieldsOf v01 (r₀ .kind))) at r l q next (bytes-known l (λ j. h .each j .fits)) (h .within) (sym u ∙ e) in
+      record {
+        table = h .table;
+        all = h .all;
+        few = h .few;
+        place = omega arith;
+        within = p .within;
+        each = h .each;
+        rest = h .rest ∙ rw here (rw (add-one i) (p .same));
+      }
+
+pub ruleset records = (empty-record, strange-record, known-record)
+
+pub ruleset fields-read = (fields-step, fields-stop, fields-over, fields-end, fields-start, needs)
