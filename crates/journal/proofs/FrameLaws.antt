@@ -37,6 +37,22 @@ pub start-other : (l : List ℕ) → length l ≤ journalMost → 1 ≤ length l
 start-other [] h k e = absurd (omega arith)
 start-other (b ∷ l) h k e = start-small (b ∷ l) h ∙ rw (ne-eqb b 1 e)
 
+-- as the code answers
+module _ (l : List ℕ) where
+  pub too-large : journalMost < length l → TOO-LARGE ≡ startFault l
+  too-large h = sym (start-large l h)
+
+  pub no-version : length l ≤ journalMost → length l < 1 → VERSION ≡ startFault l
+  no-version h k = sym (start-none l h k)
+
+  pub right-version : length l ≤ journalMost → 1 ≤ length l → getD l 0 0 ≡ 1 → 0 ≡ startFault l
+  right-version h k e = sym (start-right l h k e)
+
+  pub other-version : length l ≤ journalMost → 1 ≤ length l → (getD l 0 0 ≡ 1 → ⊥) → VERSION ≡ startFault l
+  other-version h k e = sym (start-other l h k e)
+
+pub ruleset start-faults = (too-large, no-version, right-version, other-version)
+
 -- ---- the next record
 
 pub next-end : (l : List ℕ) → length l < 1 → nextIn v01 l ≡ End

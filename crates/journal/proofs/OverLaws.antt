@@ -3,7 +3,8 @@ use mathlib.Core.Path.{_≡_, refl, sym, _∙_, ap}
 use mathlib.Core.List.{List, [], _∷_, _++_, append-assoc, append-nil}
 use Prim.Native.Nat.{ℕ, zero, suc, _+_, _-_, _/_, _%_, _<_, _≤_}
 use native.Mathlib.Omega.{arith}
-use lib.ListN.{length, take, drop, set, length-append, length-drop, take-append-drop}
+use lib.ListN.{length, take, drop, set, length-append, length-set, length-drop, take-append-drop}
+use borrow.Author.Needs.{needs}
 use lib.Seq.{append-snoc, take-set-le, set-split, drop-at, take-at, drop-drop, length-take-le, take-length, paste}
 use Rattle.lists.specs.ByteLoopLaws.{FillLoop, fill-end}
 use Rattle.journal.specs.Numbers.{bytesOf}
@@ -59,6 +60,36 @@ number-turn at j n buf h =
     let k : at + length (bytesOf j (n / 256)) < length buf = rw e h in
     ap (λ (i : ℕ). over at (bytesOf j (n / 256)) (set buf (at + i) (n % 256))) (sym e) ∙ over-last at (bytesOf j (n / 256)) (n % 256) buf k
 
+-- the loop that does so: i bytes of the number's w are left, of what is left of the number, and the rest is written
+pub record NumberLoop (out₀ : List ℕ) (at w n i rest : ℕ) (out : List ℕ) : Type 0 where
+  pub place : i ≤ w
+  pub room : at + w ≤ length out₀
+  pub size : length out ≡ length out₀
+  pub left : over at (bytesOf i rest) out ≡ over at (bytesOf w n) out₀
+
+module _ (out₀ : List ℕ) (at w n : ℕ) where
+  pub number-start : at + w ≤ length out₀ → NumberLoop out₀ at w n w n out₀
+  number-start h = record { place = omega arith; room = h; size = refl; left = refl }
+
+  module _ (i rest : ℕ) (out : List ℕ) (h : NumberLoop out₀ at w n i rest out) where
+    pub number-step : 0 < i → NumberLoop out₀ at w n (i - 1) (rest / 256) (set out (at + (i - 1)) (rest % 256))
+    number-step k =
+        let e : suc (i - 1) ≡ i = omega arith in
+        record {
+          place = omega arith;
+          room = h .room;
+          size = length-set out (at + (i - 1)) (rest % 256) ∙ h .size;
+          left = number-turn at (i - 1) rest out (omega arith) ∙ ap (λ (j : ℕ). over at (bytesOf j rest) out) e ∙ h .left;
+        }
+
+    pub number-end : i ≤ 0 → out ≡ over at (bytesOf w n) out₀
+    unfolding bytesOf
+    number-end k =
+        let z : i ≡ 0 = omega arith in
+        sym (over-none at out) ∙ ap (λ (j : ℕ). over at (bytesOf j rest) out) (sym z) ∙ h .left
+
+pub ruleset digits = (number-step, number-end, number-start, needs)
+
 -- a whole copy
 pub over-paste : (at : ℕ) (s buf : List ℕ) → paste buf at s (length s) ≡ over at s buf
 over-paste at s buf = ap (λ (m : List ℕ). take at buf ++ m ++ drop (at + length s) buf) (take-length s)
@@ -70,3 +101,8 @@ filled-over at s buf i out h k = fill-end buf at s (length s) i out h k ∙ over
 -- two pieces, the first of w bytes
 pub over-pair : (at w : ℕ) (a b buf : List ℕ) → length a ≡ w → at + w ≤ length buf → over (at + w) b (over at a buf) ≡ over at (a ++ b) buf
 over-pair at w a b buf e h = ap (λ (k : ℕ). over (at + k) b (over at a buf)) (sym e) ∙ over-over at a b buf (rw e h)
+
+-- a text: its length, and then its bytes
+pub text-over : (at : ℕ) (t buf m out : List ℕ) → at + (1 + length t) ≤ length buf → m ≡ over at (bytesOf 1 (length t)) buf → out ≡ over (at + 1) t m
+    → out ≡ over at (bytesOf 1 (length t) ++ t) buf
+text-over at t buf m out h e f = f ∙ ap (over (at + 1) t) e ∙ over-pair at 1 (bytesOf 1 (length t)) t buf (length-bytesOf 1 (length t)) (omega arith)

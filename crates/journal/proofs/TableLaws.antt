@@ -4,7 +4,7 @@ use mathlib.Core.Bool.{Bool, true, _&&_}
 use mathlib.Core.List.{List, [], _∷_, map}
 use mathlib.Core.Option.{none, some}
 use mathlib.Core.Logic.{_⊎_, inl, inr, ⊎-elim}
-use Prim.Native.Nat.{ℕ, zero, suc, _+_, _<_, _≤_}
+use Prim.Native.Nat.{ℕ, zero, suc, _+_, _-_, _<_, _≤_}
 use native.Mathlib.Nat.{add-suc, suc-add}
 use native.Mathlib.Omega.{arith}
 use lib.Dec.{eqb}
@@ -13,9 +13,10 @@ use borrow.Author.Tests.{eq-eqb, ne-eqb, eqb-true}
 use Rattle.journal.specs.declared.Kind.{Kind}
 use Rattle.journal.specs.declared.Kind.the-variants.{Advance, Create, Deposit, Delete, Undelete, Grant, Attenuate, Revoke, Open, Stage, Commit, Abandon, Remove, Look, Register, Heartbeat}
 use Rattle.journal.specs.declared.Field.{Field}
+use Rattle.journal.specs.declared.Named.the-variants as a
 use Rattle.journal.specs.NumberLaws.{and-left, and-right}
 use Rattle.journal.specs.Records.{v01, fieldsOf, kindNumber, kinds, kindAmong}
-use Rattle.journal.specs.Table.{kindPlace, padded}
+use Rattle.journal.specs.Table.{kindPlace, named, namedBy, padded}
 
 -- the kinds are numbered one after another from i
 abbrev pub numberedFrom : ℕ → List Kind → Bool
@@ -44,6 +45,24 @@ no-kind i n (k ∷ ks) t h =
     let ne : n ≡ kindNumber k → ⊥ = λ (z : n ≡ kindNumber k). ⊎-elim (λ (a : n < i). omega arith) (λ (b : i + suc (length ks) ≤ n). omega arith) h in
     let r : (n < suc i) ⊎ (suc i + length ks ≤ n) = ⊎-elim (λ (a : n < i). inl (omega arith)) (λ (b : i + suc (length ks) ≤ n). inr (omega arith)) h in
     rw (ne-eqb n (kindNumber k) ne) (no-kind (suc i) n ks (and-right (eqb (kindNumber k) i) _ t) r)
+
+-- what a byte names: nothing before 1 and after 16, and else the kind at its place
+module _ (n : ℕ) where
+  pub names-none-low : n < 1 → a.Unknown ≡ named n
+  unfolding named
+  names-none-low h = sym (ap namedBy (no-kind 1 n (kinds v01) refl (inl h)))
+
+  pub names-none-high : 16 < n → a.Unknown ≡ named n
+  unfolding named
+  names-none-high h = sym (ap namedBy (no-kind 1 n (kinds v01) refl (inr (omega arith))))
+
+  pub names-kind : (d : Kind) → 1 ≤ n → n ≤ 16 → a.Kind (getD (kinds v01) (n - 1) d) ≡ named n
+  unfolding named
+  names-kind d h k =
+      let e : 1 + (n - 1) ≡ n = omega arith in
+      sym (ap namedBy (ap (λ (m : ℕ). kindAmong m (kinds v01)) (sym e) ∙ kind-at 1 (kinds v01) (n - 1) d refl (omega arith)))
+
+pub ruleset names = (names-none-low, names-none-high, names-kind)
 
 -- the fields of the kinds, in the kinds' order
 abbrev pub rows : List (List Field)
