@@ -7,6 +7,8 @@ use native.Mathlib.Omega.{arith}
 use lib.ListN.{length, take, drop, length-append}
 use borrow.Author.Needs.{needs}
 use borrow.Author.Tests.{leb-true}
+use Rattle.amount.specs.declared.Cap.{Cap}
+use Rattle.amount.specs.declared.Cap.the-variants.{Unlimited, Bytes as Count}
 use Rattle.journal.specs.declared.Field.{Field}
 use Rattle.journal.specs.declared.Field.the-variants as its
 use Rattle.journal.specs.declared.Fields.{Fields}
@@ -15,8 +17,8 @@ use Rattle.journal.specs.NumberLaws.{length-bytesOf}
 use Rattle.journal.specs.Fields.{capBytes}
 use Rattle.journal.specs.Records.{v01}
 use Rattle.journal.specs.Writes.{over, givable, fieldBytes}
-use Rattle.journal.proofs.OverLaws.{over-none}
-use Rattle.journal.proofs.SizeLaws.{account-bytes, no-bytes, slot-bytes, k-bytes, m-bytes, text-bytes, amount-bytes, hash-bytes, mode-bytes, cap-bytes, from-bytes, until-bytes, none-bytes}
+use Rattle.journal.proofs.OverLaws.{over-none, over-pair}
+use Rattle.journal.proofs.SizeLaws.{account-bytes, no-bytes, slot-bytes, k-bytes, m-bytes, text-bytes, amount-bytes, hash-bytes, mode-bytes, cap-bytes, from-bytes, until-bytes, none-bytes, unlimited-length, count-length}
 
 -- the bytes of the field that the arm names, and how many they are
 module _ (f : Field) (d : Fields) (t : List ℕ) where
@@ -116,3 +118,36 @@ pub ruleset rooms = (room, lengths, needs)
 
 pub ruleset writes =
     (ends, wrote, none-ends, none-wrote, lengths, no-is, slot-is, k-is, m-is, amount-is, from-is, until-is, account-is, hash-is, text-is, cap-is, mode-is, needs)
+
+-- ---- a cap: one byte, and the count where there is one. m is the buffer after that byte, and next the place
+
+module _ (cap : Cap) (at : ℕ) where
+  pub room-unlimited : (n : ℕ) → cap ≡ Unlimited → at + length (capBytes cap) ≤ n → at + 1 ≤ n
+  room-unlimited n e h = let l = rw e at h in omega (arith, unlimited-length)
+
+  pub ends-unlimited : (r : ℕ) → cap ≡ Unlimited → r ≡ at + 1 → r ≡ at + length (capBytes cap)
+  ends-unlimited r e h = rw e (omega (arith, unlimited-length))
+
+  pub wrote-unlimited : (out out′ : List ℕ) → cap ≡ Unlimited → out′ ≡ over at (bytesOf 1 0) out → out′ ≡ over at (capBytes cap) out
+  wrote-unlimited out out′ e h = rw e h
+
+  module _ (k : ℕ) (e : cap ≡ Count k) where
+    pub room-mark : (n : ℕ) → at + length (capBytes cap) ≤ n → at + 1 ≤ n
+    room-mark n h = let l = rw e at h in omega (arith, count-length k)
+
+    pub room-count : (n next s : ℕ) → at + length (capBytes cap) ≤ n → next ≡ at + 1 → s ≡ n → next + 8 ≤ s
+    room-count n next s h p q = let l = rw e at h in omega (arith, count-length k)
+
+    pub ends-count : (next r : ℕ) → next ≡ at + 1 → r ≡ next + 8 → r ≡ at + length (capBytes cap)
+    ends-count next r p q = rw e (omega (arith, count-length k))
+
+    pub wrote-count : (next : ℕ) (out m out′ : List ℕ) → at + length (capBytes cap) ≤ length out → next ≡ at + 1 → m ≡ over at (bytesOf 1 1) out
+        → out′ ≡ over next (bytesOf 8 k) m → out′ ≡ over at (capBytes cap) out
+    wrote-count next out m out′ h p q r =
+        rw e
+        (r ∙ ap (over next (bytesOf 8 k)) q ∙ ap (λ (i : ℕ). over i (bytesOf 8 k) (over at (bytesOf 1 1) out)) p
+        ∙ over-pair at 1 (bytesOf 1 1) (bytesOf 8 k) out (length-bytesOf 1 1) (room-mark (length out) h))
+
+pub ruleset cap-rooms = (room-unlimited, room-mark, room-count)
+
+pub ruleset cap-writes = (ends-unlimited, wrote-unlimited, ends-count, wrote-count)

@@ -2,10 +2,13 @@
 use mathlib.Core.Path.{_≡_, refl, sym, _∙_, ap}
 use mathlib.Core.Bool.{Bool, true, false, _&&_, cond}
 use mathlib.Core.List.{List, [], _∷_, _++_}
-use Prim.Native.Nat.{ℕ, zero, suc, _+_, _-_, _<_, _≤_}
+use Prim.Native.Nat.{ℕ, zero, suc, _+_, _*_, _-_, _<_, _≤_}
+use native.Mathlib.Numerals.{add-one}
 use native.Mathlib.Omega.{arith}
+use mir.Val.{Fits}
+use mir.Syntax.{w64}
 use lib.Dec.{leb, eqb}
-use lib.ListN.{length, take, drop, getD, length-append}
+use lib.ListN.{length, take, drop, getD, length-append, drop-of-length-le}
 use lib.Seq.{take-at, drop-cons, getD-take, length-take-le}
 use borrow.Author.Needs.{needs}
 use borrow.Author.Tests.{le-leb, lt-leb, eq-eqb, ne-eqb}
@@ -23,7 +26,7 @@ use Rattle.journal.specs.NumberLaws.{length-bytesOf}
 use Rattle.journal.specs.Fields.{encode, capBytes}
 use Rattle.journal.specs.Records.{v01}
 use Rattle.journal.specs.Table.{padded, fieldsMost}
-use Rattle.journal.specs.Writes.{valueIn, modeIn, givable, givableAll, fieldBytes, fieldsBytes, fieldSize, fieldsSize}
+use Rattle.journal.specs.Writes.{valueIn, modeIn, givable, givableAll, fieldBytes, fieldsBytes, fieldSize, fieldsSize, small}
 
 -- ---- a kind's fields out of their array
 
@@ -193,6 +196,55 @@ size-stop f fs d t n e = go (givable v01 f d t) refl e
 pub size-end : (d : Fields) (t : List ℕ) (n : ℕ) → fieldsSize v01 n [] d t ≡ Bytes n
 unfolding fieldsSize givableAll fieldsBytes
 size-end d t n = let z : n + 0 ≡ n = omega arith in ap Bytes z
+
+-- the loop that measures the fields: with the n bytes of those before i, the fields from i on have the size of all
+pub record SizeLoop (fields : List Field) (count : ℕ) (d : Fields) (t : List ℕ) (n i : ℕ) : Type 0 where
+  pub few : count ≤ 7
+  pub within : count ≤ length fields
+  pub place : i ≤ count
+  pub most : n ≤ 256 * i
+  pub rest : fieldsSize v01 0 (take count fields) d t ≡ fieldsSize v01 n (drop i (take count fields)) d t
+
+module _ (fields : List Field) (count : ℕ) (d : Fields) (t : List ℕ) where
+  pub size-start : (fs : List Field) → fields ≡ padded fs → count ≡ length fs → count ≤ 7 → SizeLoop fields count d t 0 0
+  size-start fs e l h = record { few = h; within = count-within fs fields count e l; place = omega arith; most = omega arith; rest = refl }
+
+  module _ (n i : ℕ) (h : SizeLoop fields count d t n i) where
+    -- the size of all, where i is the next field
+    next-size : i < count → fieldsSize v01 0 (take count fields) d t
+        ≡ fieldsSize v01 n (getD fields i its.Account ∷ drop (suc i) (take count fields)) d t
+    next-size k = h .rest ∙ ap (λ (gs : List Field). fieldsSize v01 n gs d t) (field-in fields count i k (h .within))
+
+    pub all-sized : (fs : List Field) → fields ≡ padded fs → count ≡ length fs → count ≤ i → Bytes n ≡ fieldsSize v01 0 fs d t
+    all-sized fs e l k =
+        let z : drop i (take count fields) ≡ [] = drop-of-length-le (take count fields) {i = i} (omega (arith, length-take-le count fields (h .within))) in
+        rw (← fields-taken fs fields count e l, h .rest, z) (sym (size-end d t n))
+
+    -- s is the size of field i
+    module _ (s : Size) (w : s ≡ fieldSize v01 (getD fields i its.Account) d t) (j : i < count) where
+      pub one-bad : (fs : List Field) → fields ≡ padded fs → count ≡ length fs → s ≡ Bad → Bad ≡ fieldsSize v01 0 fs d t
+      one-bad fs e l b =
+          rw (← fields-taken fs fields count e l, next-size j)
+          (sym (size-stop (getD fields i its.Account) (drop (suc i) (take count fields)) d t n (sym w ∙ b)))
+
+      module _ (k : ℕ) (b : s ≡ Bytes k) (m : small s) where
+        short : k ≤ 256
+        short = rw b at m
+
+        pub size-step : SizeLoop fields count d t (n + k) (i + 1)
+        size-step =
+            record {
+              few = h .few;
+              within = h .within;
+              place = omega arith;
+              most = omega (arith, short);
+              rest = rw (add-one i) (next-size j ∙ size-more (getD fields i its.Account) (drop (suc i) (take count fields)) d t n k (sym w ∙ b));
+            }
+
+        pub size-room : Fits w64 (n + k)
+        size-room = record { fits = omega (arith, short) }
+
+pub ruleset measures = (size-step, one-bad, all-sized, size-start, size-room, needs)
 
 -- how long a cap's bytes are
 pub unlimited-length : length (capBytes Unlimited) ≡ 1

@@ -5,14 +5,18 @@ use mathlib.Core.List.{List, [], _∷_, _++_}
 use mathlib.Core.Option.{Option, none, some}
 use Prim.Native.Nat.{ℕ, zero, suc, _+_, _-_, _%_, _<_, _≤_}
 use native.Mathlib.Nat.{mod-eq-of-lt}
+use native.Mathlib.Numerals.{add-one}
 use native.Mathlib.Omega.{arith}
 use lib.Dec.{leb, lit<}
-use lib.ListN.{length, take, drop, length-append}
+use lib.ListN.{length, take, drop, getD, length-append, drop-of-length-le}
+use lib.Seq.{length-take-le}
+use borrow.Author.Needs.{needs}
 use borrow.Author.Tests.{le-leb, lt-leb}
 use Rattle.rules.specs.Numbers.{BAD, ROOM}
 use Rattle.journal.specs.declared.Kind.{Kind}
 use Rattle.journal.specs.declared.Kind.the-variants.{Advance, Create, Deposit, Delete, Undelete, Grant, Attenuate, Revoke, Open, Stage, Commit, Abandon, Remove, Look, Register, Heartbeat}
 use Rattle.journal.specs.declared.Field.{Field}
+use Rattle.journal.specs.declared.Field.the-variants as its
 use Rattle.journal.specs.declared.Fields.{Fields}
 use Rattle.journal.specs.declared.Named.the-variants as a
 use Rattle.journal.specs.declared.Size.{Size}
@@ -23,9 +27,10 @@ use Rattle.journal.specs.NumberLaws.{and-left, and-right, length-bytesOf
 use Rattle.journal.specs.Fields.{text, encode, encodeAll}
 use Rattle.journal.specs.Records.{v01, fieldsOf, formsOf, kinds, kindNumber, kindAmong, kindNumbered, recordBytes}
 use Rattle.journal.specs.RecordLaws.{kind-of-number}
-use Rattle.journal.specs.Table.{named, namedBy}
+use Rattle.journal.specs.Table.{named, namedBy, padded}
 use Rattle.journal.specs.Writes.{valuesIn, givable, givableAll, inFrame, kindIn, recordIn, over, answerOf, bufferOf, fieldBytes, fieldsBytes, fieldsSize}
 use Rattle.journal.proofs.OverLaws.{over-none, over-over, over-pair, length-over}
+use Rattle.journal.proofs.SizeLaws.{fields-taken, count-within, field-in}
 use Rattle.journal.proofs.ReadLaws.{named-kind, named-none}
 
 -- ---- one field after another
@@ -56,6 +61,58 @@ put f fs d t at out h g =
 pub put-end : (d : Fields) (t : List ℕ) (at : ℕ) (out : List ℕ) → over at (fieldsBytes v01 [] d t) out ≡ out
 unfolding fieldsBytes
 put-end d t at out = over-none at out
+
+-- the loop that does so: the fields from i on, from the place on, over the buffer give what all of them give from the start on
+pub record PutLoop (out₀ : List ℕ) (start : ℕ) (d : Fields) (t : List ℕ) (fields : List Field) (count : ℕ) (out : List ℕ) (at i : ℕ) : Type 0 where
+  pub within : count ≤ length fields
+  pub size : length out ≡ length out₀
+  pub room : at + length (fieldsBytes v01 (drop i (take count fields)) d t) ≤ length out
+  pub given : givableAll v01 (drop i (take count fields)) d t ≡ true
+  pub same : over at (fieldsBytes v01 (drop i (take count fields)) d t) out ≡ over start (fieldsBytes v01 (take count fields) d t) out₀
+
+module _ (out₀ : List ℕ) (start : ℕ) (d : Fields) (t : List ℕ) (fields : List Field) (count : ℕ) where
+  pub put-start : (fs : List Field) → fields ≡ padded fs → count ≡ length fs → start + length (fieldsBytes v01 fs d t) ≤ length out₀
+      → givableAll v01 fs d t ≡ true → PutLoop out₀ start d t fields count out₀ start 0
+  put-start fs e l h g =
+      let q = fields-taken fs fields count e l in
+      record { within = count-within fs fields count e l; size = refl; room = rw q h; given = rw q g; same = refl }
+
+  module _ (out : List ℕ) (at i : ℕ) (h : PutLoop out₀ start d t fields count out at i) where
+    pub all-put : (fs : List Field) → fields ≡ padded fs → count ≡ length fs → count ≤ i → out ≡ over start (fieldsBytes v01 fs d t) out₀
+    all-put fs e l k =
+        let z : drop i (take count fields) ≡ [] = drop-of-length-le (take count fields) {i = i} (omega (arith, length-take-le count fields (h .within))) in
+        rw (← fields-taken fs fields count e l) (sym (put-end d t at out) ∙ (rw z at (h .same)))
+
+    module _ (j : i < count) where
+      next : Put (getD fields i its.Account) (drop (suc i) (take count fields)) d t at out
+      next =
+          let e = field-in fields count i j (h .within) in
+          put (getD fields i its.Account) (drop (suc i) (take count fields)) d t at out (rw e at (h .room)) (rw e at (h .given))
+
+      pub next-room : at + length (fieldBytes v01 (getD fields i its.Account) d t) ≤ length out
+      next-room = next .one
+
+      pub next-given : givable v01 (getD fields i its.Account) d t ≡ true
+      next-given = next .given
+
+      -- out′ is the buffer after field i, and r the place
+      pub put-step : (out′ : List ℕ) (r : ℕ) → r ≡ at + length (fieldBytes v01 (getD fields i its.Account) d t)
+          → out′ ≡ over at (fieldBytes v01 (getD fields i its.Account) d t) out → length out′ ≡ length out → PutLoop out₀ start d t fields count out′ r (i + 1)
+      put-step out′ r er eo el =
+          let b = fieldsBytes v01 (drop (suc i) (take count fields)) d t in
+          let room : r + length b ≤ length out′ = omega (arith, next .rest) in
+          let same : over r b out′ ≡ over start (fieldsBytes v01 (take count fields) d t) out₀ =
+          ap (λ (m : List ℕ). over r b m) eo ∙ ap (λ (k : ℕ). over k b (over at (fieldBytes v01 (getD fields i its.Account) d t) out)) er
+          ∙ next .same ∙ (rw (field-in fields count i j (h .within)) at (h .same)) in
+          record {
+            within = h .within;
+            size = el ∙ h .size;
+            room = rw (add-one i) room;
+            given = rw (add-one i) (next .more);
+            same = rw (add-one i) same;
+          }
+
+pub ruleset puts = (put-step, all-put, next-room, next-given, put-start, needs)
 
 -- ---- the whole record
 
