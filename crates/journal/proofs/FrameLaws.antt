@@ -5,15 +5,25 @@ use mathlib.Core.List.{List, [], _∷_, _++_, append-nil}
 use Prim.Native.Nat.{ℕ, zero, suc, _+_, _-_, _<_, _≤_}
 use native.Mathlib.Nat.{zero-add}
 use native.Mathlib.Omega.{arith}
+use mir.Val.{Fits}
+use mir.Syntax.{w8}
 use lib.Dec.{ltb, eqb}
 use lib.ListN.{length, take, drop, getD, replicate, length-append, length-drop, length-take, length-replicate, drop-of-length-le}
 use lib.Seq.{take-all, take-append-le, take-append-add, take-length, take-nil, length-take-le, paste}
 use borrow.Author.Tests.{lt-ltb, le-ltb, eq-eqb, ne-eqb}
 use Rattle.journal.specs.declared.Next.{Next}
-use Rattle.journal.specs.declared.Next.the-variants.{End}
+use Rattle.journal.specs.declared.Next.the-variants.{End, Whole, Stop}
+use Rattle.journal.specs.declared.Number.{Number}
+use Rattle.journal.specs.declared.Number.the-variants.{Value, Cut}
+use Rattle.journal.specs.declared.Reading.{Reading}
+use Rattle.journal.specs.declared.Reading.the-variants as reading
+use Rattle.journal.specs.declared.Record.{Record}
 use Rattle.journal.specs.Records.{v01}
-use Rattle.journal.specs.Places.{padded32}
-use Rattle.journal.specs.Journal.{journalMost, TOO-LARGE, VERSION, framed, startFault, versionFault, onBody, nextIn}
+use Rattle.journal.specs.Places.{RECORD, readAt, padded32}
+use Rattle.journal.specs.Journal.{journalMost, TOO-LARGE, VERSION, framed, startFault, versionFault, onBody, onReading, nextIn}
+use Rattle.journal.specs.Table.{numberAt}
+use Rattle.journal.proofs.ByteLaws.{bytes-known}
+use Rattle.journal.proofs.StepLaws.{Valued, valued, valued-lt, not-there, text-cut, text-short, text-full}
 
 -- ---- the start of a journal
 
@@ -64,6 +74,53 @@ pub next-frame : (l : List ℕ) → 1 ≤ length l → nextIn v01 l ≡ onBody v
 unfolding nextIn
 next-frame [] h = absurd (omega arith)
 next-frame (b ∷ l) h = refl
+
+-- as the code takes it: x is what stands in the first two bytes
+module _ (l : List ℕ) where
+  pub at-end : length l < 1 → End ≡ nextIn v01 l
+  at-end h = sym (next-end l h)
+
+  module _ (x : Number) (e : x ≡ numberAt 2 l) where
+    pub length-cut : 1 ≤ length l → x ≡ Cut → Stop RECORD ≡ nextIn v01 l
+    length-cut h c = sym (next-frame l h ∙ ap (onBody v01) (text-cut 2 65535 l (not-there 2 l (sym c ∙ e))))
+
+    -- a length of n bytes, and y is what was read of them
+    module _ (n : ℕ) (w : x ≡ Value n) where
+      there : Valued 2 l n
+      there = valued 2 l n (sym w ∙ e)
+
+      pub length-there : 2 ≤ length l
+      length-there = there .room
+
+      pub body-there : n ≤ length l - 2 → 2 + n ≤ length l
+      body-there h = omega (arith, length-there)
+
+      module _ (known : (k : ℕ) → Fits w8 (getD l k 0)) where
+        most : n ≤ 65535
+        most = omega (arith, valued-lt 2 l n (bytes-known l (λ k. known k .fits)) there)
+
+        pub body-cut : length l - 2 < n → Stop RECORD ≡ nextIn v01 l
+        body-cut h =
+            let s : length (drop 2 l) < n = omega (arith, length-drop 2 l, length-there) in
+            sym (next-frame l (omega (arith, length-there)) ∙ ap (onBody v01) (text-short 2 65535 l n there most s))
+
+        module _ (y : Reading) (q : y ≡ readAt v01 (take (2 + n - 2) (drop 2 l))) (h : n ≤ length l - 2) where
+          body : n ≤ length (drop 2 l)
+          body = omega (arith, length-drop 2 l)
+
+          next-read : nextIn v01 l ≡ onReading (take n (drop 2 l)) y
+          next-read =
+              let z : 2 + n - 2 ≡ n = omega arith in
+              next-frame l (omega (arith, length-there)) ∙ ap (onBody v01) (text-full 2 65535 l n there most body)
+              ∙ ap (onReading (take n (drop 2 l))) (sym (rw z at q))
+
+          pub record-whole : (r : Record) → y ≡ reading.Fits r → Whole r (2 + n) ≡ nextIn v01 l
+          record-whole r f = sym (next-read ∙ rw (f, length-take-le n (drop 2 l) body))
+
+          pub record-refused : (m : ℕ) → y ≡ reading.Refused m → Stop m ≡ nextIn v01 l
+          record-refused m f = sym (next-read ∙ rw f)
+
+pub ruleset nexts = (at-end, length-cut, length-there, body-there, body-cut, record-whole, record-refused)
 
 -- ---- parts
 
