@@ -7,6 +7,8 @@ use Prim.Native.Nat.{ℕ, zero, suc, _+_, _-_, _%_, _<_, _≤_}
 use native.Mathlib.Nat.{mod-eq-of-lt}
 use native.Mathlib.Numerals.{add-one}
 use native.Mathlib.Omega.{arith}
+use mir.Val.{Fits}
+use mir.Syntax.{w64}
 use lib.Dec.{leb, lit<}
 use lib.ListN.{length, take, drop, getD, length-append, drop-of-length-le}
 use lib.Seq.{length-take-le}
@@ -18,6 +20,7 @@ use Rattle.journal.specs.declared.Kind.the-variants.{Advance, Create, De
 use Rattle.journal.specs.declared.Field.{Field}
 use Rattle.journal.specs.declared.Field.the-variants as its
 use Rattle.journal.specs.declared.Fields.{Fields}
+use Rattle.journal.specs.declared.Named.{Named}
 use Rattle.journal.specs.declared.Named.the-variants as a
 use Rattle.journal.specs.declared.Size.{Size}
 use Rattle.journal.specs.declared.Size.the-variants.{Bytes, Bad}
@@ -28,7 +31,7 @@ use Rattle.journal.specs.Fields.{text, encode, encodeAll}
 use Rattle.journal.specs.Records.{v01, fieldsOf, formsOf, kinds, kindNumber, kindAmong, kindNumbered, recordBytes}
 use Rattle.journal.specs.RecordLaws.{kind-of-number}
 use Rattle.journal.specs.Table.{named, namedBy, padded}
-use Rattle.journal.specs.Writes.{valuesIn, givable, givableAll, inFrame, kindIn, recordIn, over, answerOf, bufferOf, fieldBytes, fieldsBytes, fieldsSize}
+use Rattle.journal.specs.Writes.{valuesIn, givable, givableAll, inFrame, kindIn, recordIn, over, answerOf, bufferOf, fieldBytes, fieldsBytes, fieldsSize, sized}
 use Rattle.journal.proofs.OverLaws.{over-none, over-over, over-pair, length-over}
 use Rattle.journal.proofs.SizeLaws.{fields-taken, count-within, field-in}
 use Rattle.journal.proofs.ReadLaws.{named-kind, named-none}
@@ -237,3 +240,53 @@ short d t out k n l h =
       answer = rw (l .bytes, g);
       buffer = rw (l .bytes, g);
     }
+
+-- as the code answers: x is what the kind's byte names, and s the size of its fields
+module _ (d : Fields) (t : List ℕ) (x : Named) (e : x ≡ named (d .kind)) where
+  pub no-kind-answer : (room : ℕ) → x ≡ a.Unknown → record { number = BAD; len = 0 } ≡ answerOf (recordIn v01 d t) room
+  no-kind-answer room u = rw (unknown d t (sym u ∙ e))
+
+  pub no-kind-buffer : (out : List ℕ) → x ≡ a.Unknown → out ≡ bufferOf (recordIn v01 d t) out
+  no-kind-buffer out u = rw (unknown d t (sym u ∙ e))
+
+  module _ (k : Kind) (u : x ≡ a.Kind k) (s : Size) (f : s ≡ fieldsSize v01 0 (fieldsOf v01 k) d t) where
+    pub no-size-answer : (room : ℕ) → s ≡ Bad → record { number = BAD; len = 0 } ≡ answerOf (recordIn v01 d t) room
+    no-size-answer room b = rw (refused d t k (sym u ∙ e) (sym b ∙ f))
+
+    pub no-size-buffer : (out : List ℕ) → s ≡ Bad → out ≡ bufferOf (recordIn v01 d t) out
+    no-size-buffer out b = rw (refused d t k (sym u ∙ e) (sym b ∙ f))
+
+    module _ (n : ℕ) (b : s ≡ Bytes n) where
+      laid-in : Laid d t k n
+      laid-in = laid-out d t k n (sym u ∙ e) (sym b ∙ f)
+
+      pub all-given : givableAll v01 (fieldsOf v01 k) d t ≡ true
+      all-given = laid-in .all
+
+      -- m₁ is the buffer after the length, m₂ after the kind, and out′ after the fields
+      module _ (out : List ℕ) where
+        pub no-room-answer : length out < n + 3 → record { number = ROOM; len = 0 } ≡ answerOf (recordIn v01 d t) (length out)
+        no-room-answer h = sym (short d t out k n laid-in h .answer)
+
+        pub no-room-buffer : length out < n + 3 → out ≡ bufferOf (recordIn v01 d t) out
+        no-room-buffer h = sym (short d t out k n laid-in h .buffer)
+
+        module _ (h : n + 3 ≤ length out) where
+          pub fields-room : (m₁ m₂ : List ℕ) → length m₁ ≡ length out → length m₂ ≡ length m₁ → 3 + length (fieldsBytes v01 (fieldsOf v01 k) d t) ≤ length m₂
+          fields-room m₁ m₂ p q = omega (arith, laid-in .len)
+
+          pub whole-answer : record { number = 0; len = n + 3 } ≡ answerOf (recordIn v01 d t) (length out)
+          whole-answer = sym (done d t out k n laid-in h .answer)
+
+          pub whole-buffer : (m₁ m₂ out′ : List ℕ) → m₁ ≡ over 0 (bytesOf 2 (n + 1)) out → m₂ ≡ over 2 (bytesOf 1 (d .kind)) m₁
+              → out′ ≡ over 3 (fieldsBytes v01 (fieldsOf v01 k) d t) m₂ → out′ ≡ bufferOf (recordIn v01 d t) out
+          whole-buffer m₁ m₂ out′ p q r =
+              r ∙ ap (over 3 (fieldsBytes v01 (fieldsOf v01 k) d t)) (q ∙ ap (over 2 (bytesOf 1 (d .kind))) p) ∙ pieces d t k n out (laid-in .len) h
+              ∙ sym (done d t out k n laid-in h .buffer)
+
+pub len-fits : (s : Size) (n : ℕ) → s ≡ Bytes n → sized s → Fits w64 (n + 3)
+len-fits s n b m = let h : n ≤ 1792 = rw b at m in record { fits = omega arith }
+
+pub ruleset answers = (no-kind-answer, no-kind-buffer, no-size-answer, no-size-buffer, no-room-answer, no-room-buffer, whole-answer, whole-buffer)
+
+pub ruleset lays = (len-fits, fields-room, all-given)
