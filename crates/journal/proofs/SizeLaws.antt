@@ -12,6 +12,7 @@ use lib.ListN.{length, take, drop, getD, length-append, drop-of-length-le}
 use lib.Seq.{take-at, drop-cons, getD-take, length-take-le}
 use borrow.Author.Needs.{needs}
 use borrow.Author.Tests.{le-leb, lt-leb, eq-eqb, ne-eqb}
+use Rattle.amount.specs.declared.Cap.{Cap}
 use Rattle.amount.specs.declared.Cap.the-variants.{Unlimited, Bytes as Count}
 use Rattle.rules.specs.declared.Mode.{Mode}
 use Rattle.rules.specs.declared.Mode.the-variants as right
@@ -252,3 +253,13 @@ unlimited-length = length-bytesOf 1 0
 
 pub count-length : (n : ℕ) → length (capBytes (Count n)) ≡ 9
 count-length n = length-append (bytesOf 1 1) (bytesOf 8 n) ∙ rw (length-bytesOf 1 1, length-bytesOf 8 n)
+
+-- as the arms of the match on the cap return it
+module _ (cap : Cap) where
+  pub unlimited-size : cap ≡ Unlimited → 1 ≡ length (capBytes cap)
+  unlimited-size e = rw e (sym unlimited-length)
+
+  pub count-size : (n : ℕ) → cap ≡ Count n → 9 ≡ length (capBytes cap)
+  count-size n e = rw e (sym (count-length n))
+
+pub ruleset cap-sizes = (unlimited-size, count-size, needs)
