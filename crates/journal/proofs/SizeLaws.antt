@@ -7,15 +7,12 @@ use native.Mathlib.Numerals.{add-one}
 use native.Mathlib.Omega.{arith}
 use mir.Val.{Fits}
 use mir.Syntax.{w64}
-use lib.Dec.{leb, eqb}
 use lib.ListN.{length, take, drop, getD, length-append, drop-of-length-le}
 use lib.Seq.{take-at, drop-cons, getD-take, length-take-le}
 use borrow.Author.Needs.{needs}
-use borrow.Author.Tests.{le-leb, lt-leb, eq-eqb, ne-eqb}
+use borrow.Author.Tests.{le-leb, lt-leb}
 use Rattle.amount.specs.declared.Cap.{Cap}
 use Rattle.amount.specs.declared.Cap.the-variants.{Unlimited, Bytes as Count}
-use Rattle.rules.specs.declared.Mode.{Mode}
-use Rattle.rules.specs.declared.Mode.the-variants as right
 use Rattle.rules.specs.Scope.{modeNumber}
 use Rattle.journal.specs.declared.Field.{Field}
 use Rattle.journal.specs.declared.Field.the-variants as its
@@ -27,7 +24,7 @@ use Rattle.journal.specs.NumberLaws.{length-bytesOf}
 use Rattle.journal.specs.Fields.{encode, capBytes}
 use Rattle.journal.specs.Records.{v01}
 use Rattle.journal.specs.Table.{padded, fieldsMost}
-use Rattle.journal.specs.Writes.{valueIn, modeIn, givable, givableAll, fieldBytes, fieldsBytes, fieldSize, fieldsSize, small}
+use Rattle.journal.specs.Writes.{modeIn, givable, givableAll, fieldBytes, fieldsBytes, fieldSize, fieldsSize, small}
 
 -- ---- a kind's fields out of their array
 

@@ -1,9 +1,9 @@
 -- Writing the fields of a record one after another, and the whole record. Assumes nothing.
 use mathlib.Core.Path.{_≡_, refl, sym, _∙_, ap}
-use mathlib.Core.Bool.{Bool, true, false, _&&_, cond}
+use mathlib.Core.Bool.{Bool, true, false, cond}
 use mathlib.Core.List.{List, [], _∷_, _++_}
 use mathlib.Core.Option.{Option, none, some}
-use Prim.Native.Nat.{ℕ, zero, suc, _+_, _-_, _%_, _<_, _≤_}
+use Prim.Native.Nat.{ℕ, suc, _+_, _%_, _<_, _≤_}
 use native.Mathlib.Nat.{mod-eq-of-lt}
 use native.Mathlib.Numerals.{add-one}
 use native.Mathlib.Omega.{arith}
@@ -27,10 +27,10 @@ use Rattle.journal.specs.declared.Size.the-variants.{Bytes, Bad}
 use Rattle.journal.specs.declared.Written.{Written}
 use Rattle.journal.specs.Numbers.{bytesOf}
 use Rattle.journal.specs.NumberLaws.{and-left, and-right, length-bytesOf}
-use Rattle.journal.specs.Fields.{text, encode, encodeAll}
-use Rattle.journal.specs.Records.{v01, fieldsOf, formsOf, kinds, kindNumber, kindAmong, kindNumbered, recordBytes}
+use Rattle.journal.specs.Fields.{encode, encodeAll}
+use Rattle.journal.specs.Records.{v01, fieldsOf, formsOf, kinds, kindNumber, kindAmong, recordBytes}
 use Rattle.journal.specs.RecordLaws.{kind-of-number}
-use Rattle.journal.specs.Table.{named, namedBy, padded}
+use Rattle.journal.specs.Table.{named, padded}
 use Rattle.journal.specs.Writes.{valuesIn, givable, givableAll, inFrame, kindIn, recordIn, over, answerOf, bufferOf, fieldBytes, fieldsBytes, fieldsSize, sized}
 use Rattle.journal.proofs.OverLaws.{over-none, over-over, over-pair, length-over}
 use Rattle.journal.proofs.SizeLaws.{fields-taken, count-within, field-in}
