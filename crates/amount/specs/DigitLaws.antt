@@ -8,8 +8,8 @@ use native.Mathlib.Numerals.{add-one}
 use native.Mathlib.Omega.{arith}
 use borrow.Author.Tests.{leb-true}
 use lib.Dec.{leb, lit<}
-use lib.ListN.{length, take, drop, getD, length-append}
-use lib.Seq.{drop-cons, take-append-seam, drop-append-seam}
+use lib.ListN.{length, drop, getD, length-append}
+use lib.Seq.{drop-cons, drop-append-seam}
 use Rattle.lists.specs.BoolLaws.{and-left, and-right}
 use Rattle.amount.specs.Digits.{isDigit, leading, following, numberAfter, number}
 
@@ -29,9 +29,6 @@ leading-following (b ∷ t) = go (isDigit b) (leading-following t)
     go : (d : Bool) → leading t ++ following t ≡ t → cond d (b ∷ leading t) [] ++ cond d (following t) (b ∷ t) ≡ b ∷ t
     go true h = ap (λ (l : List ℕ). b ∷ l) h
     go false h = refl
-
-pub take-leading : (t : List ℕ) → take (length (leading t)) t ≡ leading t
-take-leading t = ap (λ (l : List ℕ). take (length (leading t)) l) (sym (leading-following t)) ∙ take-append-seam (leading t) (following t)
 
 pub drop-leading : (t : List ℕ) → drop (length (leading t)) t ≡ following t
 drop-leading t = ap (λ (l : List ℕ). drop (length (leading t)) l) (sym (leading-following t)) ∙ drop-append-seam (leading t) (following t)

@@ -1,4 +1,3 @@
 pub mod RowAnswers
 pub mod StepLaws
 pub mod HealthLaws
-pub mod FindLaws

@@ -2,7 +2,7 @@
 -- answers that hold what another function of the code made. Assumes nothing.
 use mathlib.Core.List.{List}
 use mathlib.Core.Bool.{true, _&&_}
-use mathlib.Core.Path.{_≡_, sym, _∙_}
+use mathlib.Core.Path.{_≡_, _∙_}
 use Prim.Native.Nat.{ℕ}
 use native.Mathlib.Nat.{le-trans}
 use lib.Dec.{lit≤}

@@ -62,18 +62,18 @@ module _ (w at : ℕ) (l : List ℕ) where
       ap Value (e ∙ rw (add-sub-cancel-left at w)) ∙ sym (ap asAnswer (part-there w (drop at l) k))
 
 -- the loop that reads a number: n is the number of the first i bytes of at most eight
-pub record NumberLoop (l : List ℕ) (n i : ℕ) : Type 0 where
+pub record NumberReadLoop (l : List ℕ) (n i : ℕ) : Type 0 where
   pub few : length l ≤ 8
   pub place : i ≤ length l
   pub each : (k : ℕ) → Fits w8 (getD l k 0)
   pub value : n ≡ numberOf (take i l)
 
 module _ (l : List ℕ) where
-  pub number-start : length l ≤ 8 → ((k : ℕ) → Fits w8 (getD l k 0)) → NumberLoop l 0 0
+  pub number-start : length l ≤ 8 → ((k : ℕ) → Fits w8 (getD l k 0)) → NumberReadLoop l 0 0
   unfolding numberOf
   number-start h b = record { few = h; place = omega arith; each = b; value = refl }
 
-  module _ (n i : ℕ) (h : NumberLoop l n i) where
+  module _ (n i : ℕ) (h : NumberReadLoop l n i) where
     pub number-end : length l ≤ i → n ≡ numberOf l
     number-end k = h .value ∙ ap numberOf (take-all i l k)
 
@@ -89,8 +89,8 @@ module _ (l : List ℕ) where
         pub number-add : Fits w64 (n * 256 + b)
         number-add = record { fits = omega (arith, room, h .each i .fits) }
 
-        pub number-step : NumberLoop l (n * 256 + b) (i + 1)
+        pub number-step : NumberReadLoop l (n * 256 + b) (i + 1)
         number-step =
             record { few = h .few; place = omega arith; each = h .each; value = rw (add-one i, number-more l i k, e, h .value) }
 
-pub ruleset digits = (number-step, number-end, number-mul, number-add, number-start, needs)
+pub ruleset number-reads = (number-step, number-end, number-mul, number-add, number-start, needs)

@@ -61,18 +61,18 @@ number-turn at j n buf h =
     ap (λ (i : ℕ). over at (bytesOf j (n / 256)) (set buf (at + i) (n % 256))) (sym e) ∙ over-last at (bytesOf j (n / 256)) (n % 256) buf k
 
 -- the loop that does so: i bytes of the number's w are left, of what is left of the number, and the rest is written
-pub record NumberLoop (out₀ : List ℕ) (at w n i rest : ℕ) (out : List ℕ) : Type 0 where
+pub record NumberPutLoop (out₀ : List ℕ) (at w n i rest : ℕ) (out : List ℕ) : Type 0 where
   pub place : i ≤ w
   pub room : at + w ≤ length out₀
   pub size : length out ≡ length out₀
   pub left : over at (bytesOf i rest) out ≡ over at (bytesOf w n) out₀
 
 module _ (out₀ : List ℕ) (at w n : ℕ) where
-  pub number-start : at + w ≤ length out₀ → NumberLoop out₀ at w n w n out₀
+  pub number-start : at + w ≤ length out₀ → NumberPutLoop out₀ at w n w n out₀
   number-start h = record { place = omega arith; room = h; size = refl; left = refl }
 
-  module _ (i rest : ℕ) (out : List ℕ) (h : NumberLoop out₀ at w n i rest out) where
-    pub number-step : 0 < i → NumberLoop out₀ at w n (i - 1) (rest / 256) (set out (at + (i - 1)) (rest % 256))
+  module _ (i rest : ℕ) (out : List ℕ) (h : NumberPutLoop out₀ at w n i rest out) where
+    pub number-step : 0 < i → NumberPutLoop out₀ at w n (i - 1) (rest / 256) (set out (at + (i - 1)) (rest % 256))
     number-step k =
         let e : suc (i - 1) ≡ i = omega arith in
         record {
@@ -88,7 +88,7 @@ module _ (out₀ : List ℕ) (at w n : ℕ) where
         let z : i ≡ 0 = omega arith in
         sym (over-none at out) ∙ ap (λ (j : ℕ). over at (bytesOf j rest) out) (sym z) ∙ h .left
 
-pub ruleset digits = (number-step, number-end, number-start, needs)
+pub ruleset number-puts = (number-step, number-end, number-start, needs)
 
 -- a whole copy
 pub over-paste : (at : ℕ) (s buf : List ℕ) → paste buf at s (length s) ≡ over at s buf

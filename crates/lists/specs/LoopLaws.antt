@@ -11,7 +11,6 @@ use borrow.Author.Tests.{not-true, not-false}
 use borrow.Author.Needs.{needs}
 use lib.ListN.{length, drop, getD, take, length-take}
 use lib.Seq.{getD-take}
-use Rattle.lists.specs.declared.Found.{Found}
 use Rattle.lists.specs.declared.Found.the-variants.{At, Nothing}
 use Rattle.lists.specs.Lists.{firstAt, allOf, anyOf, noClash, sumOf}
 use Rattle.lists.specs.SearchLaws.{first-here, first-on, first-end}

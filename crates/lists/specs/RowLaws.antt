@@ -25,6 +25,12 @@ pub map-after : {A B C : Type 0} (f : B → C) (g : A → B) (h : A → C) (l : 
 map-after f g h [] e = refl
 map-after f g h (x ∷ xs) e = ap₂ _∷_ (e x) (map-after f g h xs e)
 
+-- a row is the same, whatever would stand for a row past the end
+pub same-row : {A : Type 0} (l : List A) (i : ℕ) (a b : A) → i < length l → getD l i a ≡ getD l i b
+same-row [] i a b h = absurd (not-suc-le-zero h)
+same-row (x ∷ xs) zero a b h = refl
+same-row (x ∷ xs) (suc i) a b h = same-row xs i a b (le-of-suc-le-suc h)
+
 -- a row of a table that was mapped
 pub map-row : {A B : Type 0} (f : A → B) (l : List A) (i : ℕ) (d : A) (z : B) → i < length l → getD (map f l) i z ≡ f (getD l i d)
 map-row f [] i d z h = absurd (not-suc-le-zero h)

@@ -1,5 +1,4 @@
-use Rattle.lists.specs.RowLaws.{rows-length}
-use Rattle.desk.proofs.FindLaws.{same-row}
+use Rattle.lists.specs.RowLaws.{rows-length, same-row}
 use borrow.Author.Needs.{needs}
 use Rattle.desk.proofs.slot_of.Statement.{statement}
 use Rattle.desk.proofs.slot_of.Tie as tie
