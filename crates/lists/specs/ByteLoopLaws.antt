@@ -4,13 +4,13 @@
 use mathlib.Core.Path.{_≡_, refl, sym, _∙_, ap}
 use mathlib.Core.Bool.{true, false}
 use mathlib.Core.List.{List, map, append-nil}
-use Prim.Native.Nat.{ℕ, _+_, _<_, _≤_}
+use Prim.Native.Nat.{ℕ, suc, _+_, _<_, _≤_}
 use native.Mathlib.Nat.{zero-add}
 use native.Mathlib.Numerals.{add-one}
 use native.Mathlib.Omega.{arith}
 use borrow.Author.Needs.{needs}
-use lib.ListN.{length, drop, getD, set, length-set, length-map, List·getD-map, drop-of-length-le}
-use lib.Seq.{paste, paste-zero, paste-suc, take-length}
+use lib.ListN.{length, take, drop, getD, set, length-set, length-map, List·getD-map, drop-of-length-le}
+use lib.Seq.{paste, paste-zero, paste-suc, take-length, length-take-le, drop-cons, getD-at, set-getD}
 use Rattle.lists.specs.Bytes.{startsWith}
 use Rattle.lists.specs.RowLaws.{rows-length}
 use Rattle.lists.specs.ByteLaws.{starts-short, starts-differ, starts-on, starts-end}
@@ -75,6 +75,16 @@ module _ {A : Type 0} (out₀ : List A) (at : ℕ) (s : List A) (n i : ℕ) (out
 pub fill-step-first : {A : Type 0} (out₀ s : List A) (n i : ℕ) (out : List A) (d : A) → FillLoop out₀ 0 s n i out → i < n
     → FillLoop out₀ 0 s n (i + 1) (set out i (getD s i d))
 fill-step-first out₀ s n i out d h k = rw (zero-add i) at (fill-step out₀ 0 s n i out d h k)
+
+-- where what is to be stored stands there already, nothing need be stored
+pub fill-same : {A : Type 0} (out₀ s : List A) (n i : ℕ) (out : List A) (d : A) → FillLoop out₀ 0 s n i out → i < n → getD s i d ≡ getD out₀ i d
+    → FillLoop out₀ 0 s n (i + 1) out
+fill-same out₀ s n i out d h k e =
+    let l : length (take i s) ≡ i = length-take-le i s (omega (arith, h .source)) in
+    let there : getD out i d ≡ getD out₀ i d =
+    rw (h .filled, zero-add i, drop-cons out₀ i d (omega (arith, h .room))) (getD-at (take i s) (getD out₀ i d) (drop (suc i) out₀) d i l) in
+    let same : set out i (getD s i d) ≡ out = rw (e, ← there) (set-getD out i d) in
+    rw same at (fill-step-first out₀ s n i out d h k)
 
 -- with what a function of each row gives: x is what it gave of row i
 pub fill-step-of : {A B : Type 0} (f : B → A) (d : B) (out₀ : List A) (l : List B) (n i : ℕ) (out : List A) (x : A) → FillLoop out₀ 0 (map f l) n i out → i < n

@@ -4,6 +4,7 @@ pub mod SoundParts
 pub mod Shape
 pub mod MappedLaws
 pub mod ClearedLaws
+pub mod ClearLoops
 pub mod AskCases
 pub mod WorkCases
 pub mod DropLaws

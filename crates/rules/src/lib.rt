@@ -2,10 +2,14 @@
 //
 // The rules themselves are the definitions in specs/: what each call answers and what it leaves. The code that carries
 // the calls out stands in the crates above and is proved against them.
+mod answers;
 mod fresh_rows;
 pub mod numbers;
 
 use amount::Cap;
+pub use answers::refusal;
+pub use answers::success;
+pub use answers::success_with;
 pub use fresh_rows::fresh;
 pub use fresh_rows::fresh_entry;
 pub use fresh_rows::fresh_hash;
