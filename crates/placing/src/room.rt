@@ -1,0 +1,86 @@
+// Room and held shards of the relays: given back for one object.
+ghost use mathlib.Core.Path.{_≡_};
+ghost use mathlib.Core.List.{map};
+ghost use Prim.Native.Nat.{_-_, min};
+ghost use lib.ListN.{take};
+ghost use Rattle.lists.specs.Lists.{anyOf};
+ghost use Rattle.rules.specs.Relays.{sameRelay, holdsShard};
+ghost use Rattle.placing.specs.Room.{lightenedBy};
+use rules::Placement;
+use rules::Relay;
+use rules::RelayNo;
+
+// How many of a placement's 24 places are in use.
+fn place_count(len: usize) -> usize
+    ensures { λ r. ⌜ r ≡ min len 24 ⌝ }
+{
+    if len < 24 { len } else { 24 }
+}
+
+// Whether one of the first `len` places is of this relay.
+fn any_place(relays: [RelayNo; 24], len: usize, n: RelayNo) -> bool
+    ensures { λ r. ⌜ r ≡ anyOf (sameRelay n) (take len relays) ⌝ }
+{
+    let count = place_count(len);
+    let mut i: usize = 0;
+    while i < count {
+        let x = relays[i];
+        if x.0 == n.0 {
+            return true;
+        }
+        i += 1;
+    }
+    false
+}
+
+// Whether the placement has a shard on this relay.
+pub fn holds_shard(n: RelayNo, place: Placement) -> bool
+    ensures { λ r. ⌜ r ≡ holdsShard n place ⌝ }
+{
+    let relays = place.relays;
+    any_place(relays, place.len, n)
+}
+
+// The difference, or 0 where there is none.
+fn less_bytes(a: u64, b: u64) -> u64
+    ensures { λ r. ⌜ r ≡ a - b ⌝ }
+{
+    if a < b { 0 } else { a - b }
+}
+
+fn less_one(a: u32) -> u32
+    ensures { λ r. ⌜ r ≡ a - 1 ⌝ }
+{
+    if a == 0 { 0 } else { a - 1 }
+}
+
+// A relay after one object gave its room back.
+fn lighten(row: Relay, bytes: u64, place: Placement) -> Relay
+    ensures { λ r. ⌜ r ≡ lightenedBy bytes place row ⌝ }
+{
+    let n = row.no;
+    if !holds_shard(n, place) {
+        return row;
+    }
+    Relay {
+        no: n,
+        capacity: row.capacity,
+        used: less_bytes(row.used, bytes),
+        held: less_one(row.held),
+        beat: row.beat,
+    }
+}
+
+// The relays after one object with shards of so many bytes gave its room and held shards back.
+pub fn give_back_one(rows: [Relay; 32], bytes: u64, place: Placement) -> [Relay; 32]
+    ensures { λ r. ⌜ r ≡ map (lightenedBy bytes place) rows ⌝ }
+{
+    let mut out = rows;
+    let mut i: usize = 0;
+    while i < 32 {
+        let row = rows[i];
+        out[i] = lighten(row, bytes, place);
+        i += 1;
+    }
+    out
+}
