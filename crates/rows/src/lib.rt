@@ -23,6 +23,7 @@ pub use scope::in_window;
 pub use scope::is_active;
 pub use scope::is_open;
 pub use scope::shards_fit;
+pub use shards::shard_bytes;
 pub use shards::shard_size;
 pub use texts::find_entry;
 pub use texts::find_put;

@@ -10,14 +10,12 @@ use native.Mathlib.Omega.{arith}
 use borrow.Author.Tests.{ltb-true, leb-true, eqb-true, ne-eqb}
 use lib.Dec.{eqb, leb}
 use lib.ListN.{length, getD}
-use Rattle.lists.specs.declared.Found.{Found}
-use Rattle.lists.specs.declared.Found.the-variants.{At, Nothing}
-use Rattle.lists.specs.Lists.{Hit, allOf, noClash, find, firstAt, hit, miss, sumOf}
+use Rattle.lists.specs.Lists.{Hit, allOf, noClash, find, hit, miss, sumOf}
 use Rattle.lists.specs.SumLaws.{bit-lt, sum-le}
 use Rattle.lists.specs.LoopLaws.{SumLoop, sum-start, sum-adds, sum-skips, sum-within, sum-all}
 use Rattle.lists.specs.RowLaws.{rows-length, map-row}
 use Rattle.lists.specs.BoolLaws.{and-left, and-right}
-use Rattle.lists.specs.SearchLaws.{found-below, found-at, row-passes, first-row, first-miss}
+use Rattle.lists.specs.SearchLaws.{found-below, found-at, row-passes}
 use Rattle.lists.specs.TestLaws.{all-at}
 use Rattle.text.specs.Text.{within, isName, isPath, holds}
 use Rattle.rules.specs.declared.Volume.{Volume}
@@ -27,28 +25,11 @@ use Rattle.rules.specs.declared.Tables.{Tables}
 use Rattle.rules.specs.Limits.{sizeLimit, balanceLimit}
 use Rattle.rules.specs.Tables.{given, isVolume, usedEntry, freeVolume, freeEntry}
 use Rattle.rules.specs.Scope.{capFits}
-use Rattle.rules.specs.Relays.{shardSize, shardBytes, holdsShard, bytesOn, shardsOn}
+use Rattle.rules.specs.Relays.{shardBytes, holdsShard, bytesOn, shardsOn}
 use Rattle.rules.specs.Sound.{isGiven, shardsFit, soundStatus, soundVolume, soundVolumes, sameVolume, sameName, soundIn, soundEntry, soundEntries, sameEntry}
 use Rattle.rules.specs.Laws.CeilLaws.{ceil-most}
+use Rattle.rows.specs.ShardBytes.{shard-none, shard-some}
 use Rattle.rows.specs.Blank.{blankVolume, blankEntry}
-
--- the bytes of an entry's shards, by what the search for its volume found
-shard-none : (vs : List Volume) (e : Entry) → find (isVolume (e .volume)) vs ≡ miss → shardBytes vs e ≡ 0
-unfolding shardBytes
-shard-none vs e h = rw h
-
-shard-some : (vs : List Volume) (e : Entry) (i : ℕ) (v : Volume) → find (isVolume (e .volume)) vs ≡ hit i v
-    → shardBytes vs e ≡ shardSize (e .size) (v .k)
-unfolding shardBytes
-shard-some vs e i v h = rw h
-
--- as the code comes to them: f is what the search for the index of its volume said
-module _ (vs : List Volume) (e : Entry) (f : Found) (w : f ≡ firstAt (isVolume (e .volume)) 0 vs) where
-  pub bytes-none : f ≡ Nothing → 0 ≡ shardBytes vs e
-  bytes-none n = sym (shard-none vs e (first-miss (isVolume (e .volume)) vs (sym w ∙ n)))
-
-  pub bytes-at : (r i : ℕ) → f ≡ At i → r ≡ shardSize (e .size) (getD vs i blankVolume .k) → r ≡ shardBytes vs e
-  bytes-at r i h q = q ∙ sym (shard-some vs e i _ (first-row (isVolume (e .volume)) vs i (sym w ∙ h) blankVolume))
 
 -- a used row that is sound passes what comes after the test for a free one
 used-row : (free rest : Bool) → free ≡ false → (free || rest) ≡ true → rest ≡ true

@@ -7,13 +7,10 @@ ghost use Rattle.rules.specs.Tables.{usedEntry};
 ghost use Rattle.rules.specs.Relays.{shardBytes, holdsShard, bytesOn, shardsOn};
 ghost use Rattle.rules.specs.Sound.{soundVolumes, soundEntries};
 use super::placements::relay_again;
-use lists::Found;
-use rows::find_volume;
-use rows::shard_size;
+use rows::shard_bytes;
 use rules::Entry;
 use rules::RelayNo;
 use rules::Tables;
-use rules::Volume;
 
 // The bytes and the shards that a relay has.
 pub(crate) struct Load {
@@ -21,19 +18,7 @@ pub(crate) struct Load {
     pub shards: u32,
 }
 
-// The bytes of each shard of an entry: 0 where its volume is not in the table.
-fn shard_bytes(volumes: [Volume; 8], e: Entry) -> u64
-    ensures { λ r. ⌜ r ≡ shardBytes volumes e ⌝ }
-{
-    let n = e.volume;
-    let Found::At(i) = find_volume(volumes, n) else {
-        return 0;
-    };
-    let v = volumes[i];
-    shard_size(e.size, v.k)
-}
-
-// Of every entry.
+// The bytes of each entry's shards.
 pub(crate) fn shard_sizes(t: Tables) -> [u64; 64]
     ensures { λ r. ⌜ r ≡ map (shardBytes (t .volumes)) (t .entries) ⌝ }
 {

@@ -1,9 +1,9 @@
 -- `shards::shard_bytes` meets its contract: the volume is found, or there are no bytes. Assumes nothing.
-use Rattle.soundness.proofs.ShardLaws.{bytes-none, bytes-at}
+use Rattle.rows.specs.ShardBytes.{bytes-none, bytes-at}
 use Rattle.lists.specs.AnswerLaws.{in-table}
 use borrow.Author.Needs.{needs}
-use Rattle.soundness.proofs.shards.shard_bytes.Statement.{statement}
-use Rattle.soundness.proofs.shards.shard_bytes.Tie as tie
+use Rattle.rows.proofs.shards.shard_bytes.Statement.{statement}
+use Rattle.rows.proofs.shards.shard_bytes.Tie as tie
 
 pub shard-bytes-spec : {M : Type 1} → statement M
 shard-bytes-spec =

@@ -1,0 +1,77 @@
+// Entries that go: marked, then given back, then cleared.
+ghost use mathlib.Core.Path.{_≡_};
+ghost use mathlib.Core.List.{[], _∷_, map};
+ghost use Rattle.rules.specs.Fresh.{freshEntry};
+ghost use Rattle.rules.specs.Tables.{isEntry};
+ghost use Rattle.rules.specs.Relays.{lightened};
+ghost use Rattle.entries.specs.Marks.{marked, clearedBy};
+use placing::give_back_one;
+use rows::is_entry;
+use rows::shard_bytes;
+use rules::Entry;
+use rules::Relay;
+use rules::Volume;
+use rules::VolumeNo;
+
+// A mark for each entry: whether it is this volume's at this path.
+pub fn mark_path(entries: [Entry; 64], n: VolumeNo, path: &[u8]) -> [bool; 64]
+    ensures { λ r. ⌜ r ≡ map (isEntry n (now (path .entry))) entries ⌝ }
+{
+    let mut marks = [false; 64];
+    let mut i: usize = 0;
+    while i < 64 {
+        let e = entries[i];
+        marks[i] = is_entry(e, n, path);
+        i += 1;
+    }
+    marks
+}
+
+// The entries with each marked row as a fresh one.
+pub fn clear_marked(entries: [Entry; 64], marks: [bool; 64]) -> [Entry; 64]
+    ensures { λ r. ⌜ r ≡ clearedBy marks freshEntry entries ⌝ }
+{
+    let fresh = rules::fresh_entry();
+    let mut left = entries;
+    let mut i: usize = 0;
+    while i < 64 {
+        if marks[i] {
+            left[i] = fresh;
+        }
+        i += 1;
+    }
+    left
+}
+
+// The relays after one entry gave its room back; a free row has none.
+fn give_back_entry(volumes: [Volume; 8], e: Entry, relays: [Relay; 32]) -> [Relay; 32]
+    ensures { λ r. ⌜ r ≡ map (lightened volumes (e ∷ [])) relays ⌝ }
+{
+    if e.volume.0 == 0 {
+        return relays;
+    }
+    let place = e.placement;
+    give_back_one(relays, shard_bytes(volumes, e), place)
+}
+
+// The relays after each marked entry gave its room and held shards back.
+pub fn give_back(
+    volumes: [Volume; 8],
+    entries: [Entry; 64],
+    marks: [bool; 64],
+    relays: [Relay; 32],
+) -> [Relay; 32]
+    ensures { λ r. ⌜ r ≡ map (lightened volumes (marked marks entries)) relays ⌝ }
+{
+    let mut rows = relays;
+    let mut i: usize = 0;
+    while i < 64 {
+        if marks[i] {
+            let e = entries[i];
+            let next = give_back_entry(volumes, e, rows);
+            rows = next;
+        }
+        i += 1;
+    }
+    rows
+}
