@@ -71,8 +71,7 @@ pub fn free_token(rows: [Token; 32]) -> Found
 {
     let mut i: usize = 0;
     while i < 32 {
-        let k = rows[i];
-        if k.no.0 == 0 {
+        if rows[i].no.0 == 0 {
             return Found::At(i);
         }
         i += 1;
