@@ -1,6 +1,7 @@
 // Rows of the tables: finding them by number, path or name, finding a free one, and the tests on one row that the calls
 // share. Every function here answers for every input.
 mod any;
+mod chain;
 mod find;
 mod scope;
 mod shards;
@@ -10,10 +11,12 @@ pub use any::any_relay;
 pub use any::any_token;
 pub use any::any_volume;
 pub use any::is_given;
+pub use chain::depth_of;
 pub use find::find_relay;
 pub use find::find_token;
 pub use find::find_volume;
 pub use find::free_relay;
+pub use find::free_token;
 pub use find::free_volume;
 pub use find::is_number;
 pub use scope::can_read;

@@ -1,3 +1,2 @@
-pub mod ChainLaws
 pub mod ShardLaws
 pub mod Told

@@ -5,36 +5,17 @@ ghost use lib.Dec.{leb};
 ghost use Rattle.lists.specs.Lists.{allOf, noClash};
 ghost use Rattle.rules.specs.declared.Tables.{Tables};
 ghost use Rattle.text.specs.Text.{holds, isPrefix};
-ghost use Rattle.rules.specs.Scope.{capFits, depth};
+ghost use Rattle.rules.specs.Scope.{capFits};
 ghost use Rattle.rules.specs.Sound.{isGiven, parentThere, soundToken, soundTokens, sameToken};
-use lists::Found;
 use rows::any_token;
 use rows::any_volume;
 use rows::cap_fits;
-use rows::find_token;
+use rows::depth_of;
 use rows::is_given;
 use rules::Tables;
 use rules::Token;
-use rules::TokenNo;
 use rules::Volume;
 use text::path::holds_prefix;
-
-// How many tokens the chain of parents has, the token among them: 9 stands for any number above 8 and for a ring.
-fn depth_of(rows: [Token; 32], k: Token) -> usize
-    ensures { λ r. ⌜ r ≡ depth rows k ⌝ }
-{
-    let mut n: usize = 1;
-    let mut parent = k.parent.0;
-    while n < 9 {
-        let Found::At(i) = find_token(rows, TokenNo(parent)) else {
-            return n;
-        };
-        let x = rows[i];
-        parent = x.parent.0;
-        n += 1;
-    }
-    n
-}
 
 // The token is a root, or its parent is in the table.
 fn parent_there(rows: [Token; 32], k: Token) -> bool

@@ -1,7 +1,8 @@
+-- `chain::depth_of` meets its contract: a parent after another, by the laws of its loop. Assumes nothing.
 use Prim.Native.Nat.{_-_}
-use Rattle.soundness.proofs.ChainLaws.{DepthLoop, depths}
-use Rattle.soundness.proofs.tokens.depth_of.Statement.{statement}
-use Rattle.soundness.proofs.tokens.depth_of.Tie as tie
+use Rattle.rows.specs.ChainLaws.{DepthLoop, depths}
+use Rattle.rows.proofs.chain.depth_of.Statement.{statement}
+use Rattle.rows.proofs.chain.depth_of.Tie as tie
 
 pub depth-of-spec : {M : Type 1} → statement M
 depth-of-spec =

@@ -1,6 +1,6 @@
 -- A chain of parents followed one number at a time, and the loop that does so. Assumes nothing.
 use mathlib.Core.Path.{_≡_, refl, sym, _∙_}
-use mathlib.Core.List.{List, []}
+use mathlib.Core.List.{List, [], _∷_}
 use Prim.Native.Nat.{ℕ, zero, suc, _+_, _-_, _<_, _≤_}
 use native.Mathlib.Omega.{arith}
 use lib.ListN.{length, getD}
@@ -17,31 +17,48 @@ use Rattle.rules.specs.Scope.{onHit, chain, depth}
 abbrev pub numbered : ℕ → TokenNo
 numbered n = record { 0 = n }
 
--- how many tokens the chain has from the number on, at most m
-unfoldable pub above : List Token → ℕ → ℕ → ℕ
-above ts m n = length (onHit [] (chain m ts) (find (isToken (numbered n)) ts))
+-- the token of the number n and its ancestors, at most m of them
+unfoldable pub upward : List Token → ℕ → ℕ → List Token
+upward ts m n = onHit [] (chain m ts) (find (isToken (numbered n)) ts)
 
 module _ (ts : List Token) where
-  pub depth-above : (k : Token) → depth ts k ≡ 1 + above ts 8 (k .parent .0)
-  unfolding chain above
-  depth-above k = omega arith
+  pub chain-up : (m : ℕ) (k : Token) → chain (suc m) ts k ≡ k ∷ upward ts m (k .parent .0)
+  unfolding chain upward
+  chain-up m k = refl
 
-  pub above-none : (m n : ℕ) → find (isToken (numbered n)) ts ≡ miss → above ts m n ≡ 0
-  unfolding above
-  above-none m n e = rw e
+  pub up-none : (m n : ℕ) → find (isToken (numbered n)) ts ≡ miss → upward ts m n ≡ []
+  unfolding upward
+  up-none m n e = rw e
 
-  pub above-step : (m n i : ℕ) (x : Token) → find (isToken (numbered n)) ts ≡ hit i x → above ts (suc m) n ≡ 1 + above ts m (x .parent .0)
-  unfolding above chain
-  above-step m n i x e = rw e (omega arith)
+  pub up-step : (m n i : ℕ) (x : Token) → find (isToken (numbered n)) ts ≡ hit i x → upward ts (suc m) n ≡ x ∷ upward ts m (x .parent .0)
+  unfolding upward
+  up-step m n i x e = rw e (chain-up m x)
 
-  none-left : (h : Hit Token) → length (onHit [] (chain zero ts) h) ≡ 0
+  none-left : (h : Hit Token) → onHit [] (chain zero ts) h ≡ []
   unfolding chain
   none-left miss = refl
   none-left (hit i x) = refl
 
+  pub up-end : (n : ℕ) → upward ts 0 n ≡ []
+  unfolding upward
+  up-end n = none-left (find (isToken (numbered n)) ts)
+
+-- how many tokens the chain has from the number on, at most m
+abbrev pub above : List Token → ℕ → ℕ → ℕ
+above ts m n = length (upward ts m n)
+
+module _ (ts : List Token) where
+  pub depth-above : (k : Token) → depth ts k ≡ 1 + above ts 8 (k .parent .0)
+  depth-above k = rw (chain-up ts 8 k) (omega arith)
+
+  pub above-none : (m n : ℕ) → find (isToken (numbered n)) ts ≡ miss → above ts m n ≡ 0
+  above-none m n e = rw (up-none ts m n e)
+
+  pub above-step : (m n i : ℕ) (x : Token) → find (isToken (numbered n)) ts ≡ hit i x → above ts (suc m) n ≡ 1 + above ts m (x .parent .0)
+  above-step m n i x e = rw (up-step ts m n i x e) (omega arith)
+
   pub above-end : (n : ℕ) → above ts 0 n ≡ 0
-  unfolding above
-  above-end n = none-left (find (isToken (numbered n)) ts)
+  above-end n = rw (up-end ts n)
 
 -- n tokens were counted, and p is the parent of the last: with those from p on they are the chain that goes on from s
 pub record DepthLoop (ts : List Token) (s n p : ℕ) : Type 0 where

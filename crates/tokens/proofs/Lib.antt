@@ -1,0 +1,3 @@
+pub mod RowAnswers
+pub mod ScopeLaws
+pub mod WalkLaws

@@ -1,0 +1,85 @@
+-- What each rule that goes by a row of a table answers: `X-none` where the search found no row, `X-at` at the row that it found. And the
+-- answers that hold what another function of the code made. Assumes nothing.
+use mathlib.Core.List.{List}
+use mathlib.Core.Bool.{true, false}
+use mathlib.Core.Path.{_≡_, _∙_}
+use Prim.Native.Nat.{ℕ, _<_, _≤_}
+use borrow.Author.Tests.{le-leb, lt-leb}
+use lib.Dec.{leb}
+use Rattle.lists.specs.AnswerLaws.{NoRow, AtRow, no-row, at-row}
+use Rattle.rules.specs.declared.Account.{Account}
+use Rattle.rules.specs.declared.Answer.{Answer}
+use Rattle.rules.specs.declared.VolumeNo.{VolumeNo}
+use Rattle.rules.specs.declared.TokenNo.{TokenNo}
+use Rattle.rules.specs.declared.Token.{Token}
+use Rattle.rules.specs.declared.Tables.{Tables}
+use Rattle.rules.specs.declared.TablesOutcome.{TablesOutcome}
+use Rattle.rules.specs.Tables.{isVolume, isToken, isEntry, freeToken, withTokens, withLastToken}
+use Rattle.rules.specs.Outcome.{refusal, refused, accepted}
+use Rattle.rules.specs.Scope.{ScopeArg}
+use Rattle.rules.specs.TokenCalls.{tokenIn, grantIn, attenuateIn, revokeIn, revokeOwner, lookIn, lookEntry}
+use Rattle.rows.specs.Blank.{blankVolume, blankToken, blankEntry}
+use Rattle.tokens.specs.Parts.{unchanged}
+
+module _ (t : Tables) where
+  pub place-none : (k : Token) → NoRow (tokenIn t k) freeToken (t .tokens)
+  place-none k = no-row (tokenIn t k) _ _
+
+  pub place-at : (k : Token) → AtRow (tokenIn t k) freeToken (t .tokens) blankToken
+  place-at k = at-row (tokenIn t k) _ _ _
+
+  pub grant-none : (a : Account) (s : ScopeArg) (n : VolumeNo) → NoRow (grantIn t a s) (isVolume n) (t .volumes)
+  grant-none a s n = no-row (grantIn t a s) _ _
+
+  pub grant-at : (a : Account) (s : ScopeArg) (n : VolumeNo) → AtRow (grantIn t a s) (isVolume n) (t .volumes) blankVolume
+  grant-at a s n = at-row (grantIn t a s) _ _ _
+
+  pub attenuate-none : (s : ScopeArg) (n : TokenNo) → NoRow (attenuateIn t s) (isToken n) (t .tokens)
+  attenuate-none s n = no-row (attenuateIn t s) _ _
+
+  pub attenuate-at : (s : ScopeArg) (n : TokenNo) → AtRow (attenuateIn t s) (isToken n) (t .tokens) blankToken
+  attenuate-at s n = at-row (attenuateIn t s) _ _ _
+
+  pub revoke-none : (a : Account) (n : TokenNo) → NoRow (revokeIn t a) (isToken n) (t .tokens)
+  revoke-none a n = no-row (revokeIn t a) _ _
+
+  pub revoke-at : (a : Account) (n : TokenNo) → AtRow (revokeIn t a) (isToken n) (t .tokens) blankToken
+  revoke-at a n = at-row (revokeIn t a) _ _ _
+
+  pub owner-none : (a : Account) (k : Token) (n : VolumeNo) → NoRow (revokeOwner t a k) (isVolume n) (t .volumes)
+  owner-none a k n = no-row (revokeOwner t a k) _ _
+
+  pub owner-at : (a : Account) (k : Token) (n : VolumeNo) → AtRow (revokeOwner t a k) (isVolume n) (t .volumes) blankVolume
+  owner-at a k n = at-row (revokeOwner t a k) _ _ _
+
+  pub look-none : (path : List ℕ) (n : TokenNo) → NoRow (lookIn t path) (isToken n) (t .tokens)
+  look-none path n = no-row (lookIn t path) _ _
+
+  pub look-at : (path : List ℕ) (n : TokenNo) → AtRow (lookIn t path) (isToken n) (t .tokens) blankToken
+  look-at path n = at-row (lookIn t path) _ _ _
+
+  pub entry-none : (n : VolumeNo) (path : List ℕ) → NoRow (lookEntry t) (isEntry n path) (t .entries)
+  entry-none n path = no-row (lookEntry t) _ _
+
+  pub entry-at : (n : VolumeNo) (path : List ℕ) → AtRow (lookEntry t) (isEntry n path) (t .entries) blankEntry
+  entry-at n path = at-row (lookEntry t) _ _ _
+
+-- success with the tokens that another function made
+pub accepts : (t : Tables) (v last : ℕ) (a b : List Token) (x : TablesOutcome) → x ≡ accepted v (withLastToken (withTokens t a) last) → a ≡ b
+    → x ≡ accepted v (withLastToken (withTokens t b) last)
+accepts t v last a b x e f = e ∙ rw f
+
+-- an answer that leaves the tables as they are, or as another function made them
+module _ (t : Tables) (r : Answer) where
+  pub refuses : (n : ℕ) → r ≡ refusal n → unchanged t r ≡ refused t n
+  refuses n e = rw e
+
+  pub answers : (a : Answer) → r ≡ a → unchanged t r ≡ unchanged t a
+  answers a e = rw e
+
+-- a number n that a function counted as r, against a limit that it may not reach
+pub counted-most : (r n m : ℕ) → m ≤ r → r ≡ n → leb m n ≡ true
+counted-most r n m h e = rw (← e) (le-leb m r h)
+
+pub counted-less : (r n m : ℕ) → r < m → r ≡ n → leb m n ≡ false
+counted-less r n m h e = rw (← e) (lt-leb m r h)

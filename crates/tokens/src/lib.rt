@@ -1,0 +1,23 @@
+// The work of the calls on tokens: grant, attenuate, revoke and look. Each reads the tables and gives back what it
+// changes of them: the token table and the last number given. Look changes nothing and gives back its answer.
+mod answers;
+mod attenuate;
+mod grant;
+mod look;
+mod new_tokens;
+mod revoke;
+mod scope;
+
+pub use attenuate::attenuate_on;
+pub use grant::grant_on;
+pub use look::look_on;
+pub use revoke::revoke_on;
+use rules::Answer;
+use rules::Token;
+
+// What a call on the tokens leaves: the token table and the last number given.
+pub struct TokensOutcome {
+    pub answer: Answer,
+    pub tokens: [Token; 32],
+    pub last: u32,
+}
