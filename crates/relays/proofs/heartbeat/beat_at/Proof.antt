@@ -1,0 +1,20 @@
+use Rattle.rules.specs.RelayCalls.{heartbeatIn}
+use Rattle.lists.specs.AnswerLaws.{checks, said}
+use borrow.Author.Needs.{needs}
+use Rattle.relays.proofs.heartbeat.beat_at.Statement.{statement}
+use Rattle.relays.proofs.heartbeat.beat_at.Tie as tie
+
+pub beat-at-spec : {M : Type 1} → statement M
+unfolding heartbeatIn
+beat-at-spec =
+    tie.close
+    (tie.spec
+    (λ c. search needs)
+    (λ c. search needs)
+    (λ c κs. search needs)
+    (λ c κs. search needs)
+    (λ c. search (checks, said))  -- NO_RELAY
+    (λ c. search needs)
+    (λ c. search needs)
+    (λ c κs. search needs)
+    (λ c. search (checks, said)))  -- success

@@ -1,0 +1,10 @@
+use Rattle.relays.proofs.HealthLaws.{full-health, spent-health}
+use Rattle.relays.proofs.heartbeat.no_health.Statement.{statement}
+use Rattle.relays.proofs.heartbeat.no_health.Tie as tie
+
+pub no-health-spec : {M : Type 1} → statement M
+no-health-spec =
+    tie.close
+    (tie.spec
+    (λ c. search full-health)
+    (λ c. search spent-health))

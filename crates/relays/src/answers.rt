@@ -1,0 +1,32 @@
+// The answers of register and heartbeat: a refusal, which leaves all as it came, and success.
+ghost use mathlib.Core.Path.{_≡_};
+ghost use Rattle.rules.specs.Outcome.{refused, accepted};
+ghost use Rattle.rules.specs.Tables.{withRelays, withLastRelay};
+ghost use Rattle.relays.specs.Parts.{onRelays};
+use super::RelaysOutcome;
+use rules::Relay;
+use rules::Tables;
+
+pub(crate) fn refuse(t: Tables, n: u32) -> RelaysOutcome
+    ensures { λ r. ⌜ onRelays t r ≡ refused t n ⌝ }
+{
+    let answer = rules::refusal(n);
+    let relays = t.relays;
+    RelaysOutcome {
+        answer,
+        relays,
+        last: t.last_relay,
+    }
+}
+
+// `t` is not read; it is here for the contract, which says what the outcome makes of it.
+pub(crate) fn accept(t: Tables, v: u64, relays: [Relay; 32], last: u32) -> RelaysOutcome
+    ensures { λ r. ⌜ onRelays t r ≡ accepted v (withLastRelay (withRelays t relays) last) ⌝ }
+{
+    let answer = rules::success(v);
+    RelaysOutcome {
+        answer,
+        relays,
+        last,
+    }
+}

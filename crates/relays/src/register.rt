@@ -1,0 +1,52 @@
+// Register.
+ghost use mathlib.Core.Path.{_≡_};
+ghost use Prim.Native.Nat.{_<_};
+ghost use Rattle.lists.specs.Lists.{hit};
+ghost use Rattle.rules.specs.RelayCalls.{registerRule, registerIn};
+ghost use Rattle.relays.specs.Parts.{onRelays};
+use super::RelaysOutcome;
+use super::answers::accept;
+use super::answers::refuse;
+use lists::Found;
+use rows::free_relay;
+use rules::Relay;
+use rules::RelayNo;
+use rules::Tables;
+use rules::numbers::BAD;
+use rules::numbers::ROOM;
+use rules::numbers::SPENT;
+
+// The new relay takes the row, and its number is the last one given.
+fn store_relay(t: Tables, i: usize, r: Relay) -> RelaysOutcome
+    requires { ⌜ i < 32 ⌝ }
+    ensures { λ x. ⌜ onRelays t x ≡ registerIn t r (hit i r) ⌝ }
+{
+    let mut rows = t.relays;
+    rows[i] = r;
+    accept(t, r.no.0 as u64, rows, r.no.0)
+}
+
+// A relay of so many bytes joins.
+pub fn register_on(t: Tables, capacity: u64) -> RelaysOutcome
+    ensures { λ r. ⌜ onRelays t r ≡ registerRule capacity t ⌝ }
+{
+    if 4398046511104 < capacity {
+        return refuse(t, BAD);
+    }
+    let last = t.last_relay;
+    if 65535 <= last {
+        return refuse(t, SPENT);
+    }
+    let rows = t.relays;
+    let Found::At(i) = free_relay(rows) else {
+        return refuse(t, ROOM);
+    };
+    let row = Relay {
+        no: RelayNo(last + 1),
+        capacity,
+        used: 0,
+        held: 0,
+        beat: t.clock,
+    };
+    store_relay(t, i, row)
+}

@@ -1,0 +1,10 @@
+use borrow.Author.Needs.{needs}
+use Rattle.volumes.proofs.create.make_volume.Statement.{statement}
+use Rattle.volumes.proofs.create.make_volume.Tie as tie
+
+pub make-volume-spec : {M : Type 1} → statement M
+make-volume-spec =
+    tie.close
+    (tie.spec
+    (λ c κs. search needs)
+    (λ c. rw (c .to-text .ensures)))

@@ -1,0 +1,26 @@
+use Rattle.rules.specs.VolumeCalls.{deleteIn}
+use Rattle.lists.specs.AnswerLaws.{checks}
+use Rattle.volumes.proofs.RowAnswers.{accepts-delete}
+use borrow.Author.Needs.{needs}
+use Rattle.volumes.proofs.delete.delete_at.Statement.{statement}
+use Rattle.volumes.proofs.delete.delete_at.Tie as tie
+
+pub delete-at-spec : {M : Type 1} → statement M
+unfolding deleteIn
+delete-at-spec =
+    tie.close
+    (tie.spec
+    (λ c. search needs)
+    (λ c. search needs)
+    (λ c κs. search needs)
+    (λ c κs. search needs)
+    (λ c. search checks)  -- NOT_OWNER
+    (λ c κs. search needs)
+    (λ c κs. search needs)
+    (λ c. search checks)  -- STATE
+    (λ c κs. search needs)
+    (λ c. search needs)
+    (λ c. search needs)
+    (λ c κs. search needs)
+    (λ c κs. search needs)
+    (λ c. search (checks, accepts-delete)))  -- success

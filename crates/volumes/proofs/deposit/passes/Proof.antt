@@ -1,0 +1,10 @@
+use Rattle.volumes.proofs.CoinLaws.{passes-alone, passes-left}
+use Rattle.volumes.proofs.deposit.passes.Statement.{statement}
+use Rattle.volumes.proofs.deposit.passes.Tie as tie
+
+pub passes-spec : {M : Type 1} → statement M
+passes-spec =
+    tie.close
+    (tie.spec
+    (λ c. search passes-alone)
+    (λ c. search passes-left))
