@@ -1,3 +1,5 @@
+pub mod ChooseLaws
+pub mod LoadLaws
 pub mod OrderLaws
 pub mod RoomLaws
 pub mod SetLaws

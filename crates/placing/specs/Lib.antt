@@ -1,2 +1,4 @@
+pub mod GiveLaws
 pub mod Order
+pub mod OrderLaws
 pub mod Room
