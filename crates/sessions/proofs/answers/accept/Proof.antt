@@ -1,0 +1,10 @@
+use borrow.Author.Needs.{needs}
+use Rattle.sessions.proofs.answers.accept.Statement.{statement}
+use Rattle.sessions.proofs.answers.accept.Tie as tie
+
+pub accept-spec : {M : Type 1} → statement M
+accept-spec =
+    tie.close
+    (tie.spec
+    (λ c κs. search needs)  -- success-requires
+    (λ c. cc))

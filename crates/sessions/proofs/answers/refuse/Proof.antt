@@ -1,0 +1,10 @@
+use borrow.Author.Needs.{needs}
+use Rattle.sessions.proofs.answers.refuse.Statement.{statement}
+use Rattle.sessions.proofs.answers.refuse.Tie as tie
+
+pub refuse-spec : {M : Type 1} → statement M
+refuse-spec =
+    tie.close
+    (tie.spec
+    (λ c κs. search needs)  -- refusal-requires
+    (λ c. cc))

@@ -1,0 +1,10 @@
+use borrow.Author.Needs.{needs}
+use Rattle.sessions.proofs.open.new_session.Statement.{statement}
+use Rattle.sessions.proofs.open.new_session.Tie as tie
+
+pub new-session-spec : {M : Type 1} → statement M
+new-session-spec =
+    tie.close
+    (tie.spec
+    (λ c κs. search needs)
+    (λ c. rw (c .fresh-put .ensures)))

@@ -1,0 +1,24 @@
+use Rattle.rules.specs.SessionCalls.{stagePut}
+use Rattle.lists.specs.AnswerLaws.{checks, row-in-part}
+use Rattle.lists.specs.RowLaws.{rows-length}
+use Rattle.sessions.proofs.RowAnswers.{put-none, put-at, accepts-slot}
+use borrow.Author.Needs.{needs}
+use Rattle.sessions.proofs.stage.stage_put.Statement.{statement}
+use Rattle.sessions.proofs.stage.stage_put.Tie as tie
+
+pub stage-put-spec : {M : Type 1} → statement M
+unfolding stagePut
+stage-put-spec =
+    tie.close
+    (tie.spec
+    (λ c κs. search needs)
+    (λ c. search needs)
+    (λ c. search needs)
+    (λ c κs. search needs)
+    (λ c. search (checks, put-none))  -- ROOM
+    (λ c κs. search needs)
+    (λ c κs. search needs)
+    (λ c. search (checks, put-none, accepts-slot))  -- in the next place
+    (λ c κs. search (row-in-part, rows-length, needs))
+    (λ c κs. search needs)
+    (λ c. search (put-at, accepts-slot)))  -- in its old place
