@@ -1,5 +1,6 @@
 pub mod ChooseLaws
 pub mod LoadLaws
 pub mod OrderLaws
+pub mod PutLaws
 pub mod RoomLaws
 pub mod SetLaws

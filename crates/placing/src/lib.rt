@@ -2,6 +2,7 @@
 mod choose;
 mod loading;
 mod order;
+mod put;
 mod room;
 mod set;
 
@@ -9,10 +10,12 @@ pub use choose::choose_from;
 pub use choose::choose_relays;
 pub use loading::load;
 pub use order::comes_before;
+pub use put::place_put;
 pub use room::give_back_entry;
 pub use room::give_back_one;
 pub use room::holds_shard;
 pub use room::shard_bytes;
+use rules::Placement;
 use rules::Relay;
 pub use set::eligible;
 pub use set::is_eligible;
@@ -27,5 +30,12 @@ pub struct LoadedRow {
 // The relays after they took an object's shards, or as they were where a number would not fit.
 pub struct Loaded {
     pub fits: bool,
+    pub rows: [Relay; 32],
+}
+
+// What placing one put gives: its placement and the relays that took its shards, or no relays and the table as it was.
+pub struct PlacedPut {
+    pub placed: bool,
+    pub place: Placement,
     pub rows: [Relay; 32],
 }
