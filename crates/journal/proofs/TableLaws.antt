@@ -14,7 +14,7 @@ use Rattle.journal.specs.declared.Kind.{Kind}
 use Rattle.journal.specs.declared.Kind.the-variants.{Advance, Create, Deposit, Delete, Undelete, Grant, Attenuate, Revoke, Open, Stage, Commit, Abandon, Remove, Look, Register, Heartbeat}
 use Rattle.journal.specs.declared.Field.{Field}
 use Rattle.journal.specs.declared.Named.the-variants as a
-use Rattle.journal.specs.NumberLaws.{and-left, and-right}
+use Rattle.lists.specs.BoolLaws.{and-left, and-right}
 use Rattle.journal.specs.Records.{v01, fieldsOf, kindNumber, kinds, kindAmong}
 use Rattle.journal.specs.Table.{kindPlace, named, namedBy, padded}
 

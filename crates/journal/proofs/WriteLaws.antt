@@ -26,7 +26,8 @@ use Rattle.journal.specs.declared.Size.{Size}
 use Rattle.journal.specs.declared.Size.the-variants.{Bytes, Bad}
 use Rattle.journal.specs.declared.Written.{Written}
 use Rattle.journal.specs.Numbers.{bytesOf}
-use Rattle.journal.specs.NumberLaws.{and-left, and-right, length-bytesOf}
+use Rattle.lists.specs.BoolLaws.{and-left, and-right}
+use Rattle.journal.specs.NumberLaws.{length-bytesOf}
 use Rattle.journal.specs.Fields.{encode, encodeAll}
 use Rattle.journal.specs.Records.{v01, fieldsOf, formsOf, kinds, kindNumber, kindAmong, recordBytes}
 use Rattle.journal.specs.RecordLaws.{kind-of-number}

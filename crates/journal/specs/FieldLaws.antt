@@ -16,7 +16,8 @@ use Rattle.rules.specs.declared.Mode.{Mode}
 use Rattle.rules.specs.declared.Mode.the-variants.{Read, Write, Both}
 use Rattle.rules.specs.Scope.{modeNumber}
 use Rattle.journal.specs.Numbers.{bytesOf, numberOf}
-use Rattle.journal.specs.NumberLaws.{and-left, and-right, length-bytesOf, number-bytes, numberOf-lt, bytes-number}
+use Rattle.lists.specs.BoolLaws.{and-left, and-right}
+use Rattle.journal.specs.NumberLaws.{length-bytesOf, number-bytes, numberOf-lt, bytes-number}
 use Rattle.journal.specs.Fields.{Format, number, text, bytes, cap, mode, ValueOf, ValuesOf, Decoded, nothing, found, onFound, inFront, part, asNumber, asText, asBytes, asCap, asMode, decodeNumber, decodeText, decode, decodeAll, capBytes, encode, encodeAll, capFits, fits, fitsAll}
 
 -- ---- what is written reads back

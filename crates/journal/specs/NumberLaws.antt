@@ -1,9 +1,9 @@
 -- The laws of numbers as bytes: one round trip each way, over the number of bytes. Assumes nothing.
 use mathlib.Core.Path.{_≡_, refl, sym, _∙_, ap}
-use mathlib.Core.Bool.{Bool, true, false, _&&_}
-use mathlib.Core.List.{List, [], _∷_, _++_, append-assoc, append-nil}
-use Prim.Native.Nat.{ℕ, zero, suc, _+_, _*_, _/_, _%_, _^_, _<_, _≤_}
-use native.Mathlib.Nat.{pow-suc, pow-succ', pow-zero, mul-assoc, mul-comm, add-mul, add-zero, zero-add, mul-one, pow-le-pow-right}
+use mathlib.Core.Bool.{true}
+use mathlib.Core.List.{List, [], _∷_, _++_}
+use Prim.Native.Nat.{ℕ, zero, suc, _+_, _*_, _/_, _%_, _^_, _<_}
+use native.Mathlib.Nat.{pow-suc, pow-succ', pow-zero, mul-assoc, mul-one}
 use native.Mathlib.Numerals.{add-one}
 use native.Mathlib.Omega.{arith}
 use lib.Dec.{ltb}
@@ -11,16 +11,8 @@ use lib.Pow.{areBytes}
 use lib.ListN.{length, length-append}
 use lib.Arith.{digits-lt}
 use borrow.Author.Tests.{ltb-true}
+use Rattle.lists.specs.BoolLaws.{and-left, and-right}
 use Rattle.journal.specs.Numbers.{bytesOf, numberOf}
-
--- the two halves of a test that joins two
-pub and-left : (a b : Bool) → (a && b) ≡ true → a ≡ true
-and-left true b h = refl
-and-left false b h = h
-
-pub and-right : (a b : Bool) → (a && b) ≡ true → b ≡ true
-and-right true b h = h
-and-right false b h = let z : true ≡ false = sym h in cc
 
 -- a number in w bytes has w bytes
 pub length-bytesOf : (w n : ℕ) → length (bytesOf w n) ≡ w

@@ -16,7 +16,8 @@ use Rattle.journal.specs.declared.Field.{Field}
 use Rattle.journal.specs.declared.Field.the-variants as its
 use Rattle.journal.specs.declared.Record.{Record}
 use Rattle.journal.specs.Numbers.{bytesOf}
-use Rattle.journal.specs.NumberLaws.{and-left, and-right, length-bytesOf}
+use Rattle.lists.specs.BoolLaws.{and-left, and-right}
+use Rattle.journal.specs.NumberLaws.{length-bytesOf}
 use Rattle.journal.specs.Fields.{ValueOf, ValuesOf, encode, encodeAll, fits, fitsAll}
 use Rattle.journal.specs.Records.{Version, textWidth, formatOf, formsOf, fieldsOf, Values, callOf, Parsed, unfit, parsed, parse, callParsed, readRecord, recordBytes}
 use Rattle.journal.specs.RecordLaws.{Given, parse-given}

@@ -12,7 +12,7 @@ use borrow.Author.Tests.{eqb-true}
 use Rattle.rules.specs.Calls.{Ask, advance, create, deposit, delete, undelete, grant, attenuate, revoke, remove, look, register, heartbeat, Work, opens, stages, commits, abandons, Call, ask, onSlot}
 use Rattle.journal.specs.declared.Kind.{Kind}
 use Rattle.journal.specs.declared.Kind.the-variants.{Advance, Create, Deposit, Delete, Undelete, Grant, Attenuate, Revoke, Open, Stage, Commit, Abandon, Remove, Look, Register, Heartbeat}
-use Rattle.journal.specs.NumberLaws.{and-right}
+use Rattle.lists.specs.BoolLaws.{and-right}
 use Rattle.journal.specs.Fields.{Decoded, nothing, found, decodeAll, encodeAll, fitsAll}
 use Rattle.journal.specs.FieldLaws.{decode-encode-all, decode-taken-all, TakenAll}
 use Rattle.journal.specs.Records.{Version, v01, fieldsOf, kindNumber, kinds, kindAmong, kindNumbered, formsOf, Values, callOf, kindOf, valuesOf, Parsed, unfit, parsed, whole, parseKind, parse, callParsed, readRecord, recordBytes, writeRecord, writable}

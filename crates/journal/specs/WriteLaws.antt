@@ -17,7 +17,8 @@ use Rattle.journal.specs.declared.Field.{Field}
 use Rattle.journal.specs.declared.Field.the-variants as its
 use Rattle.journal.specs.declared.Fields.{Fields}
 use Rattle.journal.specs.Numbers.{bytesOf}
-use Rattle.journal.specs.NumberLaws.{and-left, and-right, length-bytesOf}
+use Rattle.lists.specs.BoolLaws.{and-left, and-right}
+use Rattle.journal.specs.NumberLaws.{length-bytesOf}
 use Rattle.journal.specs.Fields.{text, found, encode, encodeAll, fits, fitsAll, capFits, capBytes}
 use Rattle.journal.specs.FieldLaws.{decode-encode}
 use Rattle.journal.specs.Records.{v01, formatOf, formsOf, fieldsOf, callOf, callParsed, readRecord, recordBytes}
