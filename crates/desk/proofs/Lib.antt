@@ -1,3 +1,1 @@
-pub mod RowAnswers
 pub mod StepLaws
-pub mod HealthLaws

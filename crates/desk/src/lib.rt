@@ -1,108 +1,130 @@
 // The calls on the desk. Each takes the desk by value and gives it back with the answer. Each tests the desk first, then its
-// input, in the order of document 01; a refusal gives the desk back as it came.
-mod answers;
-mod relays;
-mod sessions;
-mod tokens;
-mod volumes;
+// input, in the order of document 01; a refusal gives the desk back as it came. The work of each call stands in the crate of
+// its subject and gives back the part that it changes; parts.rt puts that back into the desk.
+mod parts;
 
 ghost use mathlib.Core.Path.{_≡_};
-ghost use mathlib.Core.Bool.{true};
-ghost use Prim.Native.Nat.{_<_};
-ghost use lib.ListN.{getD};
-ghost use Rattle.rules.specs.Fresh.{freshSession};
-ghost use Rattle.rules.specs.Outcome.{onTables};
-ghost use Rattle.rules.specs.Calls.{Ask, Work, Call, step, withSlot};
+ghost use Rattle.tokens.specs.Parts.{scopeArg};
+ghost use Rattle.rules.specs.Calls.{Ask, Work, Call, step};
 use amount::Cap;
-use answers::refuse_desk;
+use parts::answered;
+use parts::refuse;
+use parts::slot_of;
+use parts::with_delete;
+use parts::with_relays;
+use parts::with_remove;
+use parts::with_session;
+use parts::with_tokens;
+use parts::with_volumes;
 use rules::Account;
 use rules::Desk;
 use rules::Hash;
+use rules::Mode;
 use rules::Outcome;
 use rules::RelayNo;
-use rules::Session;
-use rules::SlotOutcome;
-use rules::TablesOutcome;
 use rules::TokenNo;
+use rules::VolumeNo;
 use rules::numbers::BAD;
 use soundness::is_sound;
-
-// The desk with what a call on its tables left.
-fn on_tables(d: Desk, o: TablesOutcome) -> Outcome
-    ensures { λ r. ⌜ r ≡ onTables d o ⌝ }
-{
-    let answer = o.answer;
-    let tables = o.tables;
-    let sessions = d.sessions;
-    let desk = Desk { tables, sessions };
-    Outcome { answer, desk }
-}
-
-// The session of a slot.
-fn slot_of(d: Desk, slot: usize) -> Session
-    requires { ⌜ slot < 4 ⌝ }
-    ensures { λ s. ⌜ s ≡ getD (d .sessions) slot freshSession ⌝ }
-{
-    let sessions = d.sessions;
-    sessions[slot]
-}
-
-// The desk with what a call on its tables and one slot left.
-fn on_slot(d: Desk, slot: usize, o: SlotOutcome) -> Outcome
-    requires { ⌜ slot < 4 ⌝ }
-    ensures { λ r. ⌜ r ≡ withSlot d slot o ⌝ }
-{
-    let answer = o.answer;
-    let tables = o.tables;
-    let session = o.session;
-    let mut sessions = d.sessions;
-    sessions[slot] = session;
-    let desk = Desk { tables, sessions };
-    Outcome { answer, desk }
-}
-
-// A relay of so many bytes joins.
-pub fn register(d: Desk, capacity: u64) -> Outcome
-    ensures { λ r. ⌜ r ≡ step (Call.ask (Ask.register capacity)) d ⌝ }
-{
-    if !is_sound(d) {
-        return refuse_desk(d, BAD);
-    }
-    let t = d.tables;
-    on_tables(d, relays::register_on(t, capacity))
-}
-
-// A relay says that it is there.
-pub fn heartbeat(d: Desk, relay: RelayNo) -> Outcome
-    ensures { λ r. ⌜ r ≡ step (Call.ask (Ask.heartbeat relay)) d ⌝ }
-{
-    if !is_sound(d) {
-        return refuse_desk(d, BAD);
-    }
-    let t = d.tables;
-    on_tables(d, relays::heartbeat_on(t, relay))
-}
 
 // An account makes a volume of k data shards and m parity shards for each object.
 pub fn create(d: Desk, account: Account, name: &[u8], k: u8, m: u8, cap: Cap) -> Outcome
     ensures { λ r. ⌜ r ≡ step (Call.ask (Ask.create account (now (name .entry)) k m cap)) d ⌝ }
 {
     if !is_sound(d) {
-        return refuse_desk(d, BAD);
+        return refuse(d, BAD);
     }
     let t = d.tables;
-    on_tables(d, volumes::create_on(t, account, name, k, m, cap))
+    with_volumes(d, volumes::create_on(t, account, name, k, m, cap))
 }
 
-// The size of an object, and its hash handed back.
-pub fn look(d: Desk, token: TokenNo, path: &[u8]) -> Outcome
-    ensures { λ r. ⌜ r ≡ step (Call.ask (Ask.look token (now (path .entry)))) d ⌝ }
+// Coins for a volume.
+pub fn deposit(d: Desk, volume: VolumeNo, coins: u64) -> Outcome
+    ensures { λ r. ⌜ r ≡ step (Call.ask (Ask.deposit volume coins)) d ⌝ }
 {
     if !is_sound(d) {
-        return refuse_desk(d, BAD);
+        return refuse(d, BAD);
     }
     let t = d.tables;
-    on_tables(d, tokens::look_on(t, token, path))
+    with_volumes(d, volumes::deposit_on(t, volume, coins))
+}
+
+// An account deletes its volume, whose tokens go for good.
+pub fn delete(d: Desk, account: Account, volume: VolumeNo) -> Outcome
+    ensures { λ r. ⌜ r ≡ step (Call.ask (Ask.delete account volume)) d ⌝ }
+{
+    if !is_sound(d) {
+        return refuse(d, BAD);
+    }
+    let t = d.tables;
+    with_delete(d, volumes::delete_on(t, account, volume))
+}
+
+// A deleted volume that is not collected yet comes back.
+pub fn undelete(d: Desk, account: Account, volume: VolumeNo) -> Outcome
+    ensures { λ r. ⌜ r ≡ step (Call.ask (Ask.undelete account volume)) d ⌝ }
+{
+    if !is_sound(d) {
+        return refuse(d, BAD);
+    }
+    let t = d.tables;
+    with_volumes(d, volumes::undelete_on(t, account, volume))
+}
+
+// A token for a volume, from its owner.
+pub fn grant(
+    d: Desk,
+    account: Account,
+    volume: VolumeNo,
+    prefix: &[u8],
+    mode: Mode,
+    cap: Cap,
+    from: u64,
+    until: u64,
+) -> Outcome
+    ensures { λ r. ⌜ r ≡ step (Call.ask (Ask.grant account volume (scopeArg (now (prefix .entry)) mode cap from until))) d ⌝ }
+{
+    if !is_sound(d) {
+        return refuse(d, BAD);
+    }
+    let t = d.tables;
+    with_tokens(
+        d,
+        tokens::grant_on(t, account, volume, prefix, mode, cap, from, until),
+    )
+}
+
+// A narrower token under another.
+pub fn attenuate(
+    d: Desk,
+    token: TokenNo,
+    prefix: &[u8],
+    mode: Mode,
+    cap: Cap,
+    from: u64,
+    until: u64,
+) -> Outcome
+    ensures { λ r. ⌜ r ≡ step (Call.ask (Ask.attenuate token (scopeArg (now (prefix .entry)) mode cap from until))) d ⌝ }
+{
+    if !is_sound(d) {
+        return refuse(d, BAD);
+    }
+    let t = d.tables;
+    with_tokens(
+        d,
+        tokens::attenuate_on(t, token, prefix, mode, cap, from, until),
+    )
+}
+
+// A token and all below it go.
+pub fn revoke(d: Desk, account: Account, token: TokenNo) -> Outcome
+    ensures { λ r. ⌜ r ≡ step (Call.ask (Ask.revoke account token)) d ⌝ }
+{
+    if !is_sound(d) {
+        return refuse(d, BAD);
+    }
+    let t = d.tables;
+    with_tokens(d, tokens::revoke_on(t, account, token))
 }
 
 // A session begins in a slot, under a token.
@@ -110,15 +132,15 @@ pub fn open(d: Desk, slot: u8, token: TokenNo) -> Outcome
     ensures { λ r. ⌜ r ≡ step (Call.onSlot slot (Work.opens token)) d ⌝ }
 {
     if !is_sound(d) {
-        return refuse_desk(d, BAD);
+        return refuse(d, BAD);
     }
     if 4 <= slot {
-        return refuse_desk(d, BAD);
+        return refuse(d, BAD);
     }
     let i = slot as usize;
     let t = d.tables;
     let s = slot_of(d, i);
-    on_slot(d, i, sessions::open_on(t, s, token))
+    with_session(d, i, sessions::open_on(t, s, token))
 }
 
 // A session stages an object; nothing is stored yet.
@@ -126,15 +148,15 @@ pub fn stage(d: Desk, slot: u8, path: &[u8], size: u64, hash: Hash) -> Outcome
     ensures { λ r. ⌜ r ≡ step (Call.onSlot slot (Work.stages (now (path .entry)) size hash)) d ⌝ }
 {
     if !is_sound(d) {
-        return refuse_desk(d, BAD);
+        return refuse(d, BAD);
     }
     if 4 <= slot {
-        return refuse_desk(d, BAD);
+        return refuse(d, BAD);
     }
     let i = slot as usize;
     let t = d.tables;
     let s = slot_of(d, i);
-    on_slot(d, i, sessions::stage_on(t, s, path, size, hash))
+    with_session(d, i, sessions::stage_on(t, s, path, size, hash))
 }
 
 // A session ends with nothing stored.
@@ -142,13 +164,57 @@ pub fn abandon(d: Desk, slot: u8) -> Outcome
     ensures { λ r. ⌜ r ≡ step (Call.onSlot slot Work.abandons) d ⌝ }
 {
     if !is_sound(d) {
-        return refuse_desk(d, BAD);
+        return refuse(d, BAD);
     }
     if 4 <= slot {
-        return refuse_desk(d, BAD);
+        return refuse(d, BAD);
     }
     let i = slot as usize;
     let t = d.tables;
     let s = slot_of(d, i);
-    on_slot(d, i, sessions::abandon_on(t, s))
+    with_session(d, i, sessions::abandon_on(t, s))
+}
+
+// An owner takes an object out of its volume.
+pub fn remove(d: Desk, account: Account, volume: VolumeNo, path: &[u8]) -> Outcome
+    ensures { λ r. ⌜ r ≡ step (Call.ask (Ask.remove account volume (now (path .entry)))) d ⌝ }
+{
+    if !is_sound(d) {
+        return refuse(d, BAD);
+    }
+    let t = d.tables;
+    with_remove(d, entries::remove_on(t, account, volume, path))
+}
+
+// The size of an object, and its hash handed back.
+pub fn look(d: Desk, token: TokenNo, path: &[u8]) -> Outcome
+    ensures { λ r. ⌜ r ≡ step (Call.ask (Ask.look token (now (path .entry)))) d ⌝ }
+{
+    if !is_sound(d) {
+        return refuse(d, BAD);
+    }
+    let t = d.tables;
+    answered(d, tokens::look_on(t, token, path))
+}
+
+// A relay of so many bytes joins.
+pub fn register(d: Desk, capacity: u64) -> Outcome
+    ensures { λ r. ⌜ r ≡ step (Call.ask (Ask.register capacity)) d ⌝ }
+{
+    if !is_sound(d) {
+        return refuse(d, BAD);
+    }
+    let t = d.tables;
+    with_relays(d, relays::register_on(t, capacity))
+}
+
+// A relay says that it is there.
+pub fn heartbeat(d: Desk, relay: RelayNo) -> Outcome
+    ensures { λ r. ⌜ r ≡ step (Call.ask (Ask.heartbeat relay)) d ⌝ }
+{
+    if !is_sound(d) {
+        return refuse(d, BAD);
+    }
+    let t = d.tables;
+    with_relays(d, relays::heartbeat_on(t, relay))
 }

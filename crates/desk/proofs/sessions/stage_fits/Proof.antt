@@ -1,7 +1,0 @@
-use Rattle.lists.specs.AnswerLaws.{checks}
-use borrow.Author.Needs.{needs}
-use Rattle.desk.proofs.sessions.stage_fits.Statement.{statement}
-use Rattle.desk.proofs.sessions.stage_fits.Tie as tie
-
-pub stage-fits-spec : {M : Type 1} → statement M
-stage-fits-spec = tie.close (tie.spec (λ c κs. search needs) (λ c. search checks) (λ c. search checks))

@@ -1,0 +1,135 @@
+// The part of the desk that a call leaves, put back into the whole.
+ghost use mathlib.Core.Path.{_≡_};
+ghost use Prim.Native.Nat.{_<_};
+ghost use lib.ListN.{getD};
+ghost use Rattle.rules.specs.Fresh.{freshSession};
+ghost use Rattle.rules.specs.Outcome.{deskRefused, onTables};
+ghost use Rattle.rules.specs.Calls.{withSlot};
+ghost use Rattle.entries.specs.Parts.{onRemove};
+ghost use Rattle.relays.specs.Parts.{onRelays};
+ghost use Rattle.volumes.specs.Parts.{onVolumes, onDelete};
+ghost use Rattle.tokens.specs.Parts.{onTokens, unchanged};
+ghost use Rattle.sessions.specs.Parts.{onSession};
+use entries::RemoveOutcome;
+use relays::RelaysOutcome;
+use rules::Answer;
+use rules::Desk;
+use rules::Outcome;
+use rules::Session;
+use sessions::SessionOutcome;
+use tokens::TokensOutcome;
+use volumes::DeleteOutcome;
+use volumes::VolumesOutcome;
+
+// A refusal gives the desk back as it came.
+pub(crate) fn refuse(d: Desk, n: u32) -> Outcome
+    ensures { λ r. ⌜ r ≡ deskRefused d n ⌝ }
+{
+    let answer = rules::refusal(n);
+    Outcome { answer, desk: d }
+}
+
+// Of a call that changes nothing.
+pub(crate) fn answered(d: Desk, a: Answer) -> Outcome
+    ensures { λ r. ⌜ r ≡ onTables d (unchanged (d .tables) a) ⌝ }
+{
+    Outcome { answer: a, desk: d }
+}
+
+// Of a call on the relays.
+pub(crate) fn with_relays(d: Desk, o: RelaysOutcome) -> Outcome
+    ensures { λ r. ⌜ r ≡ onTables d (onRelays (d .tables) o) ⌝ }
+{
+    let answer = o.answer;
+    let relays = o.relays;
+    let mut tables = d.tables;
+    tables.relays = relays;
+    tables.last_relay = o.last;
+    let sessions = d.sessions;
+    let desk = Desk { tables, sessions };
+    Outcome { answer, desk }
+}
+
+// Of create, deposit and undelete.
+pub(crate) fn with_volumes(d: Desk, o: VolumesOutcome) -> Outcome
+    ensures { λ r. ⌜ r ≡ onTables d (onVolumes (d .tables) o) ⌝ }
+{
+    let answer = o.answer;
+    let volumes = o.volumes;
+    let mut tables = d.tables;
+    tables.volumes = volumes;
+    tables.last_volume = o.last;
+    tables.deposits = o.deposits;
+    let sessions = d.sessions;
+    let desk = Desk { tables, sessions };
+    Outcome { answer, desk }
+}
+
+// Of delete.
+pub(crate) fn with_delete(d: Desk, o: DeleteOutcome) -> Outcome
+    ensures { λ r. ⌜ r ≡ onTables d (onDelete (d .tables) o) ⌝ }
+{
+    let answer = o.answer;
+    let volumes = o.volumes;
+    let tokens = o.tokens;
+    let mut tables = d.tables;
+    tables.volumes = volumes;
+    tables.tokens = tokens;
+    let sessions = d.sessions;
+    let desk = Desk { tables, sessions };
+    Outcome { answer, desk }
+}
+
+// Of remove.
+pub(crate) fn with_remove(d: Desk, o: RemoveOutcome) -> Outcome
+    ensures { λ r. ⌜ r ≡ onTables d (onRemove (d .tables) o) ⌝ }
+{
+    let answer = o.answer;
+    let volumes = o.volumes;
+    let entries = o.entries;
+    let relays = o.relays;
+    let mut tables = d.tables;
+    tables.volumes = volumes;
+    tables.entries = entries;
+    tables.relays = relays;
+    let sessions = d.sessions;
+    let desk = Desk { tables, sessions };
+    Outcome { answer, desk }
+}
+
+// Of grant, attenuate and revoke.
+pub(crate) fn with_tokens(d: Desk, o: TokensOutcome) -> Outcome
+    ensures { λ r. ⌜ r ≡ onTables d (onTokens (d .tables) o) ⌝ }
+{
+    let answer = o.answer;
+    let tokens = o.tokens;
+    let mut tables = d.tables;
+    tables.tokens = tokens;
+    tables.last_token = o.last;
+    let sessions = d.sessions;
+    let desk = Desk { tables, sessions };
+    Outcome { answer, desk }
+}
+
+// The session of a slot.
+pub(crate) fn slot_of(d: Desk, slot: usize) -> Session
+    requires { ⌜ slot < 4 ⌝ }
+    ensures { λ s. ⌜ s ≡ getD (d .sessions) slot freshSession ⌝ }
+{
+    let sessions = d.sessions;
+    sessions[slot]
+}
+
+// Of open, stage and abandon: the slot.
+pub(crate) fn with_session(d: Desk, slot: usize, o: SessionOutcome) -> Outcome
+    requires { ⌜ slot < 4 ⌝ }
+    ensures { λ r. ⌜ r ≡ withSlot d slot (onSession (d .tables) o) ⌝ }
+{
+    let answer = o.answer;
+    let session = o.session;
+    let mut sessions = d.sessions;
+    sessions[slot] = session;
+    let tables = d.tables;
+    let desk = Desk { tables, sessions };
+    Outcome { answer, desk }
+}
