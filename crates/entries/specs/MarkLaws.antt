@@ -1,27 +1,24 @@
 -- Laws of marks: marks by a test, the loops over marked rows, and relays to which marked entries give their room back. Assumes nothing.
-use mathlib.Core.Path.{_≡_, refl, sym, _∙_, ap, ap₂}
-use mathlib.Core.Bool.{Bool, true, false, cond, _&&_}
+use mathlib.Core.Path.{_≡_, refl, sym, _∙_, ap}
+use mathlib.Core.Bool.{Bool, true, false, cond}
 use mathlib.Core.List.{List, [], _∷_, map}
 use Prim.Native.Nat.{ℕ, zero, suc, _+_, _-_, _<_, _≤_}
 use native.Mathlib.Nat.{le-of-suc-le-suc, not-suc-le-zero}
 use native.Mathlib.Numerals.{add-one}
 use native.Mathlib.Omega.{arith}
 use borrow.Author.Needs.{needs}
-use borrow.Author.Tests.{eq-eqb, ne-eqb, lt-ltb, le-ltb}
-use lib.Dec.{eqb, ltb}
-use lib.ListN.{length, take, drop, getD, set, drop-of-length-le}
+use lib.ListN.{length, drop, getD, set, drop-of-length-le}
 use lib.Seq.{drop-cons}
-use Rattle.lists.specs.Lists.{bit, keep, sumOf}
+use Rattle.lists.specs.Lists.{keep}
 use Rattle.lists.specs.RowLaws.{rows-length, map-after}
 use Rattle.lists.specs.ByteLoopLaws.{FillLoop, fill-start, fill-step-first, fill-same, fill-whole, fill-size}
-use Rattle.rules.specs.declared.Placement.{Placement}
 use Rattle.rules.specs.declared.Volume.{Volume}
 use Rattle.rules.specs.declared.Entry.{Entry}
 use Rattle.rules.specs.declared.Relay.{Relay}
-use Rattle.rules.specs.Tables.{usedEntry, withRoom, cleared}
-use Rattle.rules.specs.Relays.{shardBytes, holdsShard, bytesOn, shardsOn, lightened}
+use Rattle.rules.specs.Tables.{cleared}
+use Rattle.rules.specs.Relays.{lightened}
 use Rattle.rows.specs.Blank.{blankEntry}
-use Rattle.placing.specs.Room.{lightenedBy}
+use Rattle.placing.specs.GiveLaws.{map-same, after-none, after-first}
 use Rattle.entries.specs.Marks.{marked, clearedBy}
 
 -- marks by a test
@@ -70,76 +67,6 @@ module _ {A : Type 0} (z : A) (ms : List Bool) (l : List A) (n : ℕ) where
       pub mark-kept : b ≡ false → next ≡ out → FillLoop l 0 (clearedBy ms z l) n (i + 1) next
       mark-kept t g = rw g (fill-same l (clearedBy ms z l) n i out d h k (rw t at row))
 
--- ---- room given back
-
-module _ (vs : List Volume) (r : Relay) where
-  -- nothing is given back for no entry
-  none-given : lightened vs [] r ≡ r
-  unfolding lightened sumOf
-  none-given =
-      let u : r .used - 0 ≡ r .used = omega arith in
-      let h : r .held - 0 ≡ r .held = omega arith in
-      rw (u, h)
-
-  module _ (e : Entry) where
-    -- the first entry, then the others
-    pub one-more : (gone : List Entry) → lightened vs gone (lightened vs (e ∷ []) r) ≡ lightened vs (e ∷ gone) r
-    unfolding lightened sumOf
-    one-more gone =
-        let b = bytesOn vs (r .no) e in
-        let c = shardsOn (r .no) e in
-        let s = sumOf (bytesOn vs (r .no)) gone in
-        let n = sumOf (shardsOn (r .no)) gone in
-        let u : r .used - (b + 0) - s ≡ r .used - (b + s) = omega arith in
-        let h : r .held - (c + 0) - n ≡ r .held - (c + n) = omega arith in
-        rw (u, h)
-
-    -- a free row has nothing
-    pub free-gives : usedEntry e ≡ false → lightened vs (e ∷ []) r ≡ r
-    unfolding lightened sumOf bytesOn shardsOn
-    free-gives f =
-        let u : r .used - 0 ≡ r .used = omega arith in
-        let h : r .held - 0 ≡ r .held = omega arith in
-        rw (f, u, h)
-
-    pub used-gives : usedEntry e ≡ true → lightenedBy (shardBytes vs e) (e .placement) r ≡ lightened vs (e ∷ []) r
-    unfolding lightened lightenedBy sumOf bytesOn shardsOn
-    used-gives f = rw f (go (holdsShard (r .no) (e .placement)))
-      where
-        go : (b : Bool)
-            → cond b (withRoom r (r .used - shardBytes vs e) (r .held - 1)) r
-            ≡ withRoom r (r .used - (cond b (shardBytes vs e) 0 + 0)) (r .held - (bit b + 0))
-        go true =
-            let u : shardBytes vs e + 0 ≡ shardBytes vs e = omega arith in
-            rw u
-        go false =
-            let u : r .used - 0 ≡ r .used = omega arith in
-            let h : r .held - 0 ≡ r .held = omega arith in
-            rw (u, h)
-
--- of a whole table
-same-rows : {A : Type 0} (f : A → A) (l : List A) → ((x : A) → f x ≡ x) → map f l ≡ l
-same-rows f [] e = refl
-same-rows f (x ∷ xs) e = ap₂ _∷_ (e x) (same-rows f xs e)
-
--- what one entry gives back: rs are the relays before it
-module _ (vs : List Volume) (e : Entry) (rs : List Relay) where
-  pub gives-none : e .volume .0 ≡ 0 → rs ≡ map (lightened vs (e ∷ [])) rs
-  gives-none z = sym (same-rows (lightened vs (e ∷ [])) rs (λ r. free-gives vs r e (le-ltb 0 (e .volume .0) (omega arith))))
-
-  pub gives-one : (x : List Relay) (bytes : ℕ) → (e .volume .0 ≡ 0 → ⊥) → bytes ≡ shardBytes vs e → x ≡ map (lightenedBy bytes (e .placement)) rs
-      → x ≡ map (lightened vs (e ∷ [])) rs
-  gives-one x bytes n q f =
-      let u : 0 < e .volume .0 = omega arith in
-      f ∙ rw q (sym (map-same (λ r. sym (used-gives vs r e (lt-ltb 0 (e .volume .0) u)))))
-    where
-      map-same : {f g : Relay → Relay} → ((r : Relay) → f r ≡ g r) → map f rs ≡ map g rs
-      map-same {f} {g} h = go rs
-        where
-          go : (l : List Relay) → map f l ≡ map g l
-          go [] = refl
-          go (x ∷ xs) = ap₂ _∷_ (h x) (go xs)
-
 -- the loop over the entries: what is left to give back, from the relays as they are, is what all marked entries give back
 pub record GiveLoop (vs : List Volume) (es : List Entry) (ms : List Bool) (rs₀ rs : List Relay) (i : ℕ) : Type 0 where
   pub size : length es ≡ 64
@@ -155,7 +82,7 @@ module _ (vs : List Volume) (es : List Entry) (ms : List Bool) (rs₀ : List Rel
     unfolding marked
     give-end k =
         let z : drop i ms ≡ [] = drop-of-length-le ms {i = i} (omega (arith, h .marks)) in
-        sym (same-rows (lightened vs []) rs (λ r. none-given vs r)) ∙ rw z at (h .rest)
+        sym (map-same (lightened vs []) rs (after-none vs)) ∙ rw z at (h .rest)
 
     module _ (k : i < 64) (b : Bool) (e : b ≡ getD ms i false) where
       split : marked (drop i ms) (drop i es) ≡ cond b (getD es i blankEntry ∷ marked (drop (i + 1) ms) (drop (i + 1) es)) (marked (drop (i + 1) ms) (drop (i + 1) es))
@@ -168,7 +95,7 @@ module _ (vs : List Volume) (es : List Entry) (ms : List Bool) (rs₀ : List Rel
           let x = getD es i blankEntry in
           let gone = marked (drop (i + 1) ms) (drop (i + 1) es) in
           let q : map (lightened vs gone) next ≡ map (lightened vs (x ∷ gone)) rs =
-          ap (map (lightened vs gone)) (g ∙ f) ∙ map-after (lightened vs gone) (lightened vs (x ∷ [])) (lightened vs (x ∷ gone)) rs (λ r. one-more vs r x gone) in
+          ap (map (lightened vs gone)) (g ∙ f) ∙ map-after (lightened vs gone) (lightened vs (x ∷ [])) (lightened vs (x ∷ gone)) rs (λ r. sym (after-first vs x gone r)) in
           let s : marked (drop i ms) (drop i es) ≡ x ∷ gone = split ∙ rw t in
           record { size = h .size; marks = h .marks; rest = q ∙ rw s at (h .rest) }
 

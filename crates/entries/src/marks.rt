@@ -1,13 +1,12 @@
 // Entries that go: marked, then given back, then cleared.
 ghost use mathlib.Core.Path.{_≡_};
-ghost use mathlib.Core.List.{[], _∷_, map};
+ghost use mathlib.Core.List.{map};
 ghost use Rattle.rules.specs.Fresh.{freshEntry};
 ghost use Rattle.rules.specs.Tables.{isEntry};
 ghost use Rattle.rules.specs.Relays.{lightened};
 ghost use Rattle.entries.specs.Marks.{marked, clearedBy};
-use placing::give_back_one;
+use placing::give_back_entry;
 use rows::is_entry;
-use rows::shard_bytes;
 use rules::Entry;
 use rules::Relay;
 use rules::Volume;
@@ -43,17 +42,6 @@ pub fn clear_marked(entries: [Entry; 64], marks: [bool; 64]) -> [Entry; 64]
     left
 }
 
-// The relays after one entry gave its room back; a free row has none.
-fn give_back_entry(volumes: [Volume; 8], e: Entry, relays: [Relay; 32]) -> [Relay; 32]
-    ensures { λ r. ⌜ r ≡ map (lightened volumes (e ∷ [])) relays ⌝ }
-{
-    if e.volume.0 == 0 {
-        return relays;
-    }
-    let place = e.placement;
-    give_back_one(relays, shard_bytes(volumes, e), place)
-}
-
 // The relays after each marked entry gave its room and held shards back.
 pub fn give_back(
     volumes: [Volume; 8],
@@ -68,7 +56,7 @@ pub fn give_back(
     while i < 64 {
         if marks[i] {
             let e = entries[i];
-            let next = give_back_entry(volumes, e, rows);
+            let next = give_back_entry(rows, volumes, e);
             rows = next;
         }
         i += 1;

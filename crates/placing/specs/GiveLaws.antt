@@ -1,18 +1,12 @@
 -- Room given back entry by entry: what each entry gives back in turn is what `lightened` says of all of them, since a difference less a number is
--- the difference of the sum. For the loop over the entries that gives back the room of those that pass a test: its invariant at entry i of n, and
--- the laws of its start, its steps and its end; `search gives` answers each need. Assumes nothing.
-use mathlib.Core.Path.{_≡_, refl, sym, _∙_, ap}
-use mathlib.Core.Bool.{Bool, true, false, _&&_, cond}
+-- the difference of the sum. Assumes nothing.
+use mathlib.Core.Path.{_≡_, refl, sym, _∙_}
+use mathlib.Core.Bool.{Bool, true, false, cond}
 use mathlib.Core.List.{List, [], _∷_, map}
-use Prim.Native.Nat.{ℕ, suc, _+_, _-_, _<_, _≤_}
-use native.Mathlib.Numerals.{add-one}
+use Prim.Native.Nat.{ℕ, _+_, _-_, _<_}
 use native.Mathlib.Omega.{arith}
-use borrow.Author.Needs.{needs}
 use borrow.Author.Tests.{lt-ltb, le-ltb}
-use lib.ListN.{length, drop, getD, drop-of-length-le}
-use lib.Seq.{drop-cons}
-use Rattle.lists.specs.Lists.{bit, keep, sumOf}
-use Rattle.lists.specs.RowLaws.{rows-length, map-after}
+use Rattle.lists.specs.Lists.{bit, sumOf}
 use Rattle.rules.specs.declared.Volume.{Volume}
 use Rattle.rules.specs.declared.Entry.{Entry}
 use Rattle.rules.specs.declared.Relay.{Relay}
@@ -68,58 +62,13 @@ module _ (vs : List Volume) where
       let y : r .held - 0 ≡ r .held = omega arith in
       rw (u, x, y)
 
-map-same : {A : Type 0} (f : A → A) (l : List A) → ((x : A) → f x ≡ x) → map f l ≡ l
+pub map-same : {A : Type 0} (f : A → A) (l : List A) → ((x : A) → f x ≡ x) → map f l ≡ l
 map-same f [] e = refl
 map-same f (x ∷ xs) e = rw (e x, map-same f xs e)
 
 map-agrees : {A : Type 0} (f g : A → A) (l : List A) → ((x : A) → f x ≡ g x) → map f l ≡ map g l
 map-agrees f g [] e = refl
 map-agrees f g (x ∷ xs) e = rw (e x, map-agrees f g xs e)
-
--- the entries before i that pass have given their room back: what the rest gives back of the relays as they are is what all give back
-pub record GiveLoop (vs : List Volume) (p : Entry → Bool) (es : List Entry) (from : List Relay) (n i : ℕ) (rs : List Relay) : Type 0 where
-  pub size : length es ≡ n
-  pub rest : map (lightened vs (keep p es)) from ≡ map (lightened vs (keep p (drop i es))) rs
-
-module _ (vs : List Volume) (p : Entry → Bool) (es : List Entry) (rs : List Relay) (n : ℕ) where
-  pub give-start : length es ≡ n → GiveLoop vs p es rs n 0 rs
-  give-start e = record { size = e; rest = refl }
-
-module _ (vs : List Volume) (p : Entry → Bool) (es : List Entry) (from : List Relay) (n i : ℕ) (rs : List Relay) (h : GiveLoop vs p es from n i rs) where
-  pub give-end : n ≤ i → rs ≡ map (lightened vs (keep p es)) from
-  unfolding keep
-  give-end k =
-      sym (h .rest ∙ rw (drop-of-length-le es {i = i} (omega (arith, h .size))) (map-same (lightened vs []) rs (after-none vs)))
-
-  -- b is what the code's test said of entry i
-  module _ (d : Entry) (b : Bool) (k : i < n) (e : b ≡ p (getD es i d)) where
-    give-step : keep p (drop i es) ≡ cond b (getD es i d ∷ keep p (drop (i + 1) es)) (keep p (drop (i + 1) es))
-    unfolding keep
-    give-step = rw (drop-cons es i d (omega (arith, h .size)), e, add-one i)
-
-    pub give-skips : b ≡ false → GiveLoop vs p es from n (i + 1) rs
-    give-skips t =
-        let s : keep p (drop i es) ≡ keep p (drop (i + 1) es) = give-step ∙ rw t in
-        record { size = h .size; rest = rw s at (h .rest) }
-
-    -- where it passes, out is the relays after it gave its room back
-    pub give-adds : (out : List Relay) → b ≡ true → out ≡ map (lightened vs (getD es i d ∷ [])) rs → GiveLoop vs p es from n (i + 1) out
-    give-adds out t f =
-        let gone = keep p (drop (i + 1) es) in
-        let s : keep p (drop i es) ≡ getD es i d ∷ gone = give-step ∙ rw t in
-        let m : map (lightened vs gone) (map (lightened vs (getD es i d ∷ [])) rs) ≡ map (lightened vs (getD es i d ∷ gone)) rs =
-        map-after (lightened vs gone) (lightened vs (getD es i d ∷ [])) (lightened vs (getD es i d ∷ gone)) rs
-        (λ r. sym (after-first vs (getD es i d) gone r)) in
-        record { size = h .size; rest = (rw s at (h .rest)) ∙ sym m ∙ ap (map (lightened vs gone)) (sym f) }
-
-    -- as the code comes out of its branch: next is the relays after it
-    pub given-back : (next out : List Relay) → b ≡ true → out ≡ map (lightened vs (getD es i d ∷ [])) rs → next ≡ out → GiveLoop vs p es from n (i + 1) next
-    given-back next out t f g = rw g (give-adds out t f)
-
-    pub kept-on : (next : List Relay) → b ≡ false → next ≡ rs → GiveLoop vs p es from n (i + 1) next
-    kept-on next t g = rw g (give-skips t)
-
-pub ruleset gives = (given-back, kept-on, give-adds, give-skips, give-end, give-start, rows-length, needs)
 
 -- all of one entry's room, as a list of relays
 module _ (vs : List Volume) (e : Entry) (rs out : List Relay) where

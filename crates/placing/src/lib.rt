@@ -14,7 +14,6 @@ pub use put::place_put;
 pub use room::give_back_entry;
 pub use room::give_back_one;
 pub use room::holds_shard;
-pub use room::shard_bytes;
 use rules::Placement;
 use rules::Relay;
 pub use set::eligible;

@@ -4,11 +4,9 @@ ghost use mathlib.Core.List.{[], _∷_, map};
 ghost use Prim.Native.Nat.{_-_, min};
 ghost use lib.ListN.{take};
 ghost use Rattle.lists.specs.Lists.{anyOf};
-ghost use Rattle.rules.specs.Relays.{sameRelay, holdsShard, shardBytes, lightened};
+ghost use Rattle.rules.specs.Relays.{sameRelay, holdsShard, lightened};
 ghost use Rattle.placing.specs.Room.{lightenedBy};
-use lists::Found;
-use rows::find_volume;
-use rows::shard_size;
+use rows::shard_bytes;
 use rules::Entry;
 use rules::Placement;
 use rules::Relay;
@@ -88,18 +86,6 @@ pub fn give_back_one(rows: [Relay; 32], bytes: u64, place: Placement) -> [Relay;
         i += 1;
     }
     out
-}
-
-// The bytes of each shard of an entry: 0 where its volume is not in the table.
-pub fn shard_bytes(volumes: [Volume; 8], e: Entry) -> u64
-    ensures { λ r. ⌜ r ≡ shardBytes volumes e ⌝ }
-{
-    let n = e.volume;
-    let Found::At(i) = find_volume(volumes, n) else {
-        return 0;
-    };
-    let v = volumes[i];
-    shard_size(e.size, v.k)
 }
 
 // The relays after one entry gave its room and held shards back. A free row gives none.
