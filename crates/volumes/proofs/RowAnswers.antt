@@ -1,7 +1,7 @@
 -- What each rule on a volume answers: `X-none` where the search found no row, `X-at` at the row that it found. And the answers that hold what
 -- another function of the code made. Assumes nothing.
 use mathlib.Core.List.{List}
-use mathlib.Core.Bool.{Bool, true, false, _&&_}
+use mathlib.Core.Bool.{true, _&&_}
 use mathlib.Core.Path.{_≡_, _∙_}
 use Prim.Native.Nat.{ℕ}
 use native.Mathlib.Nat.{le-trans}

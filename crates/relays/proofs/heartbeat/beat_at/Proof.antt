@@ -1,3 +1,4 @@
+-- `beat_at` meets its contract: each return is that of its check. Assumes nothing.
 use Rattle.rules.specs.RelayCalls.{heartbeatIn}
 use Rattle.lists.specs.AnswerLaws.{checks, said}
 use borrow.Author.Needs.{needs}

@@ -1,3 +1,4 @@
+-- `heartbeat_on` meets its contract: there is no row of the number, or it is the first one. Assumes nothing.
 use Rattle.rules.specs.RelayCalls.{heartbeatRule, heartbeatIn}
 use Rattle.rules.specs.Tables.{relayOf}
 use Rattle.lists.specs.AnswerLaws.{in-table}

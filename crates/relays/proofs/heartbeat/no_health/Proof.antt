@@ -1,3 +1,4 @@
+-- `no_health` meets its contract: a heartbeat after the clock leaves full health, and else the blocks since decide. Assumes nothing.
 use Rattle.relays.proofs.HealthLaws.{full-health, spent-health}
 use Rattle.relays.proofs.heartbeat.no_health.Statement.{statement}
 use Rattle.relays.proofs.heartbeat.no_health.Tie as tie

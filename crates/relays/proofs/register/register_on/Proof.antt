@@ -1,3 +1,4 @@
+-- `register_on` meets its contract: each return is that of its check, and the last that of the free row. Assumes nothing.
 use Rattle.rules.specs.RelayCalls.{registerRule, registerIn}
 use Rattle.lists.specs.AnswerLaws.{checks, in-table}
 use Rattle.relays.proofs.RowAnswers.{register-none, register-at}

@@ -1,3 +1,4 @@
+-- `store_relay` meets its contract: the row is set and the number is the last one given. Assumes nothing.
 use Rattle.rules.specs.RelayCalls.{registerIn}
 use borrow.Author.Needs.{needs}
 use Rattle.relays.proofs.register.store_relay.Statement.{statement}

@@ -1,3 +1,4 @@
+-- `abandon_on` meets its contract: each return is that of its check. Assumes nothing.
 use Rattle.rules.specs.SessionCalls.{abandonRule}
 use Rattle.lists.specs.AnswerLaws.{checks}
 use Rattle.sessions.proofs.RowAnswers.{accepts-slot}

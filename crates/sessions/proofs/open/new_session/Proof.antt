@@ -1,3 +1,4 @@
+-- `new_session` meets its contract: every put is a fresh one. Assumes nothing.
 use borrow.Author.Needs.{needs}
 use Rattle.sessions.proofs.open.new_session.Statement.{statement}
 use Rattle.sessions.proofs.open.new_session.Tie as tie

@@ -1,3 +1,4 @@
+-- `open_token` meets its contract: each return is that of its check, and the last that of the volume. Assumes nothing.
 use Rattle.rules.specs.SessionCalls.{openToken, openVolume}
 use Rattle.rules.specs.Tables.{volumeOf}
 use Rattle.lists.specs.AnswerLaws.{checks, in-table}

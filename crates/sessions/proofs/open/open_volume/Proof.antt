@@ -1,3 +1,4 @@
+-- `open_volume` meets its contract: each return is that of its check, and success holds the new session. Assumes nothing.
 use Rattle.rules.specs.SessionCalls.{openVolume}
 use Rattle.lists.specs.AnswerLaws.{checks}
 use Rattle.sessions.proofs.RowAnswers.{accepts-slot}

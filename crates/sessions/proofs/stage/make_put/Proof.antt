@@ -1,3 +1,4 @@
+-- `make_put` meets its contract: a text is made of the path. Assumes nothing.
 use borrow.Author.Needs.{needs}
 use Rattle.sessions.proofs.stage.make_put.Statement.{statement}
 use Rattle.sessions.proofs.stage.make_put.Tie as tie

@@ -1,3 +1,4 @@
+-- `stage_fits` meets its contract: each return is that of its part. Assumes nothing.
 use Rattle.lists.specs.AnswerLaws.{checks}
 use borrow.Author.Needs.{needs}
 use Rattle.sessions.proofs.stage.stage_fits.Statement.{statement}

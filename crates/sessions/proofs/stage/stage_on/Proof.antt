@@ -1,3 +1,4 @@
+-- `stage_on` meets its contract: each return is that of its check, and the last that of the token. Assumes nothing.
 use Rattle.rules.specs.SessionCalls.{stageRule, stageToken}
 use Rattle.rules.specs.Tables.{tokenOf}
 use Rattle.lists.specs.AnswerLaws.{checks, said-first, in-table}

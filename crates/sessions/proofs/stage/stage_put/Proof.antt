@@ -1,3 +1,4 @@
+-- `stage_put` meets its contract: the path has a place, or there is none left, or it takes the next. Assumes nothing.
 use Rattle.rules.specs.SessionCalls.{stagePut}
 use Rattle.lists.specs.AnswerLaws.{checks, row-in-part}
 use Rattle.lists.specs.RowLaws.{rows-length}

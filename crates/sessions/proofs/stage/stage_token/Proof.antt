@@ -1,3 +1,4 @@
+-- `stage_token` meets its contract: each return is that of its check, and a path that is one is stored whole. Assumes nothing.
 use Rattle.rules.specs.SessionCalls.{stageToken}
 use Rattle.lists.specs.AnswerLaws.{checks}
 use Rattle.sessions.proofs.RowAnswers.{whole-path}

@@ -1,3 +1,4 @@
+-- `create_fits` meets its contract: each return is that of its part. Assumes nothing.
 use Rattle.lists.specs.AnswerLaws.{checks}
 use borrow.Author.Needs.{needs}
 use Rattle.volumes.proofs.create.create_fits.Statement.{statement}

@@ -1,3 +1,4 @@
+-- `create_on` meets its contract: each return is that of its check, and the last that of the row. Assumes nothing.
 use Rattle.rules.specs.VolumeCalls.{createRule}
 use Rattle.lists.specs.AnswerLaws.{checks, said}
 use Rattle.volumes.proofs.RowAnswers.{whole-name}

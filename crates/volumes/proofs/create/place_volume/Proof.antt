@@ -1,3 +1,4 @@
+-- `place_volume` meets its contract: there is no free row, or it is the first one. Assumes nothing.
 use Rattle.rules.specs.VolumeCalls.{createIn}
 use Rattle.lists.specs.AnswerLaws.{in-table}
 use Rattle.volumes.proofs.RowAnswers.{create-none, create-at}

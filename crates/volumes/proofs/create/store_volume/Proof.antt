@@ -1,3 +1,4 @@
+-- `store_volume` meets its contract: the row is set and the number is the last one given. Assumes nothing.
 use Rattle.rules.specs.VolumeCalls.{createIn}
 use borrow.Author.Needs.{needs}
 use Rattle.volumes.proofs.create.store_volume.Statement.{statement}

@@ -1,3 +1,4 @@
+-- `delete_at` meets its contract: each return is that of its check, and success holds the new row and the tokens that are left. Assumes nothing.
 use Rattle.rules.specs.VolumeCalls.{deleteIn}
 use Rattle.lists.specs.AnswerLaws.{checks}
 use Rattle.volumes.proofs.RowAnswers.{accepts-delete}

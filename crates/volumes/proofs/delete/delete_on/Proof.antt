@@ -1,3 +1,4 @@
+-- `delete_on` meets its contract: there is no row of the number, or it is the first one. Assumes nothing.
 use Rattle.rules.specs.VolumeCalls.{deleteRule, deleteIn}
 use Rattle.rules.specs.Tables.{volumeOf}
 use Rattle.lists.specs.AnswerLaws.{in-table}

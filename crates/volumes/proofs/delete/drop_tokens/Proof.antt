@@ -1,3 +1,4 @@
+-- `drop_tokens` meets its contract: after i turns the first i rows are cleared, and the others are as they came. Assumes nothing.
 use Prim.Native.Nat.{_-_}
 use mathlib.Core.Logic.{⊎-elim}
 use Rattle.rules.specs.Fresh.{freshToken}

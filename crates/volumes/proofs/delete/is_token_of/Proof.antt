@@ -1,3 +1,4 @@
+-- `is_token_of` meets its contract: each return is that of its part. Assumes nothing.
 use Rattle.lists.specs.AnswerLaws.{checks}
 use Rattle.volumes.proofs.delete.is_token_of.Statement.{statement}
 use Rattle.volumes.proofs.delete.is_token_of.Tie as tie

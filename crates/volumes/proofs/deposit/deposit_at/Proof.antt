@@ -1,3 +1,4 @@
+-- `deposit_at` meets its contract: each return is that of its check, and both sums fit once it is not too much. Assumes nothing.
 use Rattle.rules.specs.VolumeCalls.{depositIn}
 use Rattle.lists.specs.AnswerLaws.{checks, said}
 use Rattle.volumes.proofs.CoinLaws.{balance-fits, deposits-fit}

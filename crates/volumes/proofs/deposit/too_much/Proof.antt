@@ -1,3 +1,4 @@
+-- `too_much` meets its contract: each return is that of its part. Assumes nothing.
 use Rattle.lists.specs.AnswerLaws.{either}
 use borrow.Author.Needs.{needs}
 use Rattle.volumes.proofs.deposit.too_much.Statement.{statement}

@@ -1,3 +1,4 @@
+-- `undelete_at` meets its contract: each return is that of its check, and success holds the new row. Assumes nothing.
 use Rattle.rules.specs.VolumeCalls.{undeleteIn}
 use Rattle.lists.specs.AnswerLaws.{checks, said}
 use Rattle.volumes.proofs.RowAnswers.{accepts-row}

@@ -1,3 +1,4 @@
+-- `undelete_on` meets its contract: there is no row of the number, or it is the first one. Assumes nothing.
 use Rattle.rules.specs.VolumeCalls.{undeleteRule, undeleteIn}
 use Rattle.rules.specs.Tables.{volumeOf}
 use Rattle.lists.specs.AnswerLaws.{in-table}
