@@ -4,22 +4,27 @@ use mathlib.Core.Bool.{Bool, true, false, _&&_, _||_, cond, not}
 use mathlib.Core.List.{List, _∷_, map}
 use Prim.Native.Nat.{ℕ, _+_, _-_, _<_, _≤_}
 use native.Mathlib.Omega.{arith}
-use borrow.Author.Tests.{le-leb, leb-true, le-ltb}
+use borrow.Author.Tests.{le-leb, leb-true, le-ltb, eqb-true}
 use lib.Dec.{leb, ltb}
 use lib.ListN.{length, getD}
-use Rattle.lists.specs.Lists.{allOf, noClash}
+use Rattle.lists.specs.Lists.{allOf, noClash, sumOf}
+use Rattle.lists.specs.SumLaws.{bit-lt, sum-le}
 use Rattle.lists.specs.BoolLaws.{and-left, and-right, and-both, not-both}
 use Rattle.lists.specs.TestLaws.{all-at, at-all}
+use Rattle.rules.specs.declared.RelayNo.{RelayNo}
 use Rattle.rules.specs.declared.Placement.{Placement}
+use Rattle.rules.specs.declared.Entry.{Entry}
 use Rattle.rules.specs.declared.Relay.{Relay}
 use Rattle.rules.specs.declared.Put.{Put}
-use Rattle.rules.specs.Limits.{capacityLimit, eligibleHealth, shardPlaces}
-use Rattle.rules.specs.Fresh.{freshRelay}
-use Rattle.rules.specs.Tables.{usedRelay, freeRelay, withRoom}
-use Rattle.rules.specs.Relays.{health, shardSize, holdsShard, loaded, tooFew, taken, placementOf}
-use Rattle.rules.specs.Sound.{sameRelayRow}
+use Rattle.rules.specs.declared.Tables.{Tables}
+use Rattle.rules.specs.Limits.{entryRows, capacityLimit, eligibleHealth, shardPlaces}
+use Rattle.rules.specs.Fresh.{freshEntry, freshRelay}
+use Rattle.rules.specs.Tables.{usedEntry, usedRelay, freeRelay, withRoom}
+use Rattle.rules.specs.Relays.{health, shardSize, holdsShard, shardsOn, loaded, tooFew, taken, placementOf}
+use Rattle.rules.specs.Sound.{soundRelay, sameRelayRow}
 use Rattle.rules.specs.Commit.{noPlace, placed, andPlaced, placeAll}
-use Rattle.rules.specs.Laws.ApartLaws.{used-not-free, other-part, either-part}
+use Rattle.rules.specs.Laws.ApartLaws.{used-not-free, not-free-used, other-part, either-part}
+use Rattle.rules.specs.Laws.RowFacts.{relay-facts}
 use Rattle.rules.specs.Laws.MappedLaws.{all-mapped}
 use Rattle.rules.specs.Laws.PlaceLaws.{fitsRelay, fit-facts, taken-eligible, placed-on}
 use Rattle.placing.specs.declared.PlacedPut.{PlacedPut}
@@ -94,6 +99,22 @@ pub few-loaded : (most bytes : ℕ) (p : Placement) (rs : List Relay) → allOf 
     → allOf (fewHeld (most + 1)) (map (loaded bytes p) rs) ≡ true
 few-loaded most bytes p rs =
     all-mapped (loaded bytes p) (fewHeld most) (fewHeld (most + 1)) rs freshRelay (λ j h. few-more most bytes p (getD rs j freshRelay))
+
+-- the relays of sound tables hold no more than one shard of each entry
+one-shard : (n : RelayNo) (e : Entry) → shardsOn n e ≤ 1
+unfolding shardsOn
+one-shard n e = omega (arith, bit-lt (usedEntry e && holdsShard n (e .placement)))
+
+pub sound-few : (t : Tables) (r : Relay) → length (t .entries) ≡ entryRows → soundRelay t r ≡ true → fewHeld entryRows r ≡ true
+unfolding fewHeld
+sound-few t r l e =
+    either-part (freeRelay r) (leb (r .capacity) capacityLimit && leb (r .held) entryRows)
+    (λ n.
+    let f = relay-facts t r (not-free-used (r .no .0) n) e in
+    let m = sum-le (shardsOn (r .no)) 1 (t .entries) freshEntry (λ j b. one-shard (r .no) (getD (t .entries) j freshEntry)) in
+    let g = eqb-true (r .held) (sumOf (shardsOn (r .no)) (t .entries)) (f .held) in
+    let q : r .held ≤ entryRows = omega (arith, m, g, l) in
+    and-both (f .capacity) (le-leb (r .held) entryRows q))
 
 -- placedPut is one step of placeAll
 module _ (clock k m : ℕ) (p : Put) (ps : List Put) (rs : List Relay) where
