@@ -1,6 +1,6 @@
 -- A relay, and the relays, after an object is placed, or as they were where a number would not fit. Assumes nothing.
-use mathlib.Core.Path.{_≡_, refl, sym, _∙_, ap, ap₂}
-use mathlib.Core.Bool.{Bool, true, false, not, cond, _&&_, _||_}
+use mathlib.Core.Path.{_≡_, sym, _∙_, ap}
+use mathlib.Core.Bool.{Bool, true, false, not}
 use mathlib.Core.List.{List, map}
 use Prim.Native.Nat.{ℕ, _+_, _-_, _^_, _<_, _≤_}
 use native.Mathlib.Omega.{arith}
@@ -8,7 +8,6 @@ use borrow.Author.Needs.{needs}
 use borrow.Author.Tests.{not-true, not-false, le-leb, lt-leb}
 use lib.Dec.{leb}
 use lib.ListN.{length, getD, set}
-use Rattle.lists.specs.Lists.{allOf}
 use Rattle.lists.specs.LoopLaws.{AllLoop, all-start, all-step, all-failed, all-passed}
 use Rattle.lists.specs.ByteLoopLaws.{FillLoop, fill-start, fill-step-of, fill-whole, least-mapped, length-mapped}
 use Rattle.lists.specs.RowLaws.{rows-length}
@@ -17,7 +16,6 @@ use Rattle.rules.specs.declared.Relay.{Relay}
 use Rattle.rules.specs.Tables.{withRoom}
 use Rattle.rules.specs.Relays.{holdsShard, loaded}
 use Rattle.placing.specs.declared.LoadedRow.{LoadedRow}
-use Rattle.placing.specs.declared.Loaded.{Loaded}
 use Rattle.placing.specs.Room.{canLoad, canLoadAll, loadedRow, loadedRows, mostBytes, mostShards}
 
 -- b is what the code said of the placement

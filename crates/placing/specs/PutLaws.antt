@@ -1,25 +1,31 @@
 -- Laws of placedPut: it is one step of placeAll, and on relays that are sound as far as placing needs it the numbers have room. Assumes nothing.
-use mathlib.Core.Path.{_≡_, refl, sym, _∙_, ap}
+use mathlib.Core.Path.{_≡_, refl, sym}
 use mathlib.Core.Bool.{Bool, true, false, _&&_, _||_, cond, not}
-use mathlib.Core.List.{List, [], _∷_, map}
+use mathlib.Core.List.{List, _∷_, map}
 use Prim.Native.Nat.{ℕ, _+_, _-_, _<_, _≤_}
 use native.Mathlib.Omega.{arith}
-use borrow.Author.Tests.{le-leb, leb-true, le-ltb, ltb-false}
+use borrow.Author.Tests.{le-leb, leb-true, le-ltb, eqb-true}
 use lib.Dec.{leb, ltb}
 use lib.ListN.{length, getD}
-use Rattle.lists.specs.Lists.{allOf, noClash}
-use Rattle.lists.specs.BoolLaws.{and-left, and-right, and-both, not-both, pass-or-fail}
+use Rattle.lists.specs.Lists.{allOf, noClash, sumOf}
+use Rattle.lists.specs.SumLaws.{bit-lt, sum-le}
+use Rattle.lists.specs.BoolLaws.{and-left, and-right, and-both, not-both}
 use Rattle.lists.specs.TestLaws.{all-at, at-all}
+use Rattle.rules.specs.declared.RelayNo.{RelayNo}
 use Rattle.rules.specs.declared.Placement.{Placement}
+use Rattle.rules.specs.declared.Entry.{Entry}
 use Rattle.rules.specs.declared.Relay.{Relay}
 use Rattle.rules.specs.declared.Put.{Put}
-use Rattle.rules.specs.Limits.{capacityLimit, eligibleHealth, shardPlaces}
-use Rattle.rules.specs.Fresh.{freshRelay}
-use Rattle.rules.specs.Tables.{usedRelay, freeRelay, withRoom}
-use Rattle.rules.specs.Relays.{health, isEligible, shardSize, holdsShard, loaded, tooFew, taken, placementOf}
-use Rattle.rules.specs.Sound.{sameRelayRow}
-use Rattle.rules.specs.Commit.{Placed, noPlace, placed, andPlaced, placeAll}
-use Rattle.rules.specs.Laws.ApartLaws.{used-not-free, other-part}
+use Rattle.rules.specs.declared.Tables.{Tables}
+use Rattle.rules.specs.Limits.{entryRows, capacityLimit, eligibleHealth, shardPlaces}
+use Rattle.rules.specs.Fresh.{freshEntry, freshRelay}
+use Rattle.rules.specs.Tables.{usedEntry, usedRelay, freeRelay, withRoom}
+use Rattle.rules.specs.Relays.{health, shardSize, holdsShard, shardsOn, loaded, tooFew, taken, placementOf}
+use Rattle.rules.specs.Sound.{soundRelay, sameRelayRow}
+use Rattle.rules.specs.Commit.{noPlace, placed, andPlaced, placeAll}
+use Rattle.rules.specs.Laws.ApartLaws.{used-not-free, not-free-used, other-part, either-part}
+use Rattle.rules.specs.Laws.RowFacts.{relay-facts}
+use Rattle.rules.specs.Laws.MappedLaws.{all-mapped}
 use Rattle.rules.specs.Laws.PlaceLaws.{fitsRelay, fit-facts, taken-eligible, placed-on}
 use Rattle.placing.specs.declared.PlacedPut.{PlacedPut}
 use Rattle.placing.specs.Room.{canLoad, canLoadAll, mostBytes, mostShards}
@@ -68,6 +74,47 @@ module _ (clock bytes wanted last most : ℕ) (rs : List Relay) (fit : allOf (fi
       let a = leb-true (r .capacity) capacityLimit (and-left (leb (r .capacity) capacityLimit) (leb (r .held) most) q) in
       let b = leb-true (r .held) most (and-right (leb (r .capacity) capacityLimit) (leb (r .held) most) q) in
       (omega (arith, leb-true bytes (r .capacity - r .used) room, g .within), omega arith))
+
+-- and after it each relay holds one shard more at most
+few-more : (most bytes : ℕ) (p : Placement) (r : Relay) → fewHeld most r ≡ true → fewHeld (most + 1) (loaded bytes p r) ≡ true
+unfolding fewHeld loaded
+few-more most bytes p r e = go (holdsShard (r .no) p)
+  where
+    small : Bool
+    small = leb (r .capacity) capacityLimit
+
+    held-one : (h : ℕ) → h ≤ r .held + 1 → (freeRelay r || (small && leb h (most + 1))) ≡ true
+    held-one h k =
+        either-part (freeRelay r) (small && leb h (most + 1))
+        (λ n.
+        let q = other-part (freeRelay r) (small && leb (r .held) most) n e in
+        let b = leb-true (r .held) most (and-right small (leb (r .held) most) q) in
+        and-both (and-left small (leb (r .held) most) q) (le-leb h (most + 1) (omega arith)))
+
+    go : (b : Bool) → fewHeld (most + 1) (cond b (withRoom r (r .used + bytes) (r .held + 1)) r) ≡ true
+    go true = held-one (r .held + 1) (omega arith)
+    go false = held-one (r .held) (omega arith)
+
+pub few-loaded : (most bytes : ℕ) (p : Placement) (rs : List Relay) → allOf (fewHeld most) rs ≡ true
+    → allOf (fewHeld (most + 1)) (map (loaded bytes p) rs) ≡ true
+few-loaded most bytes p rs =
+    all-mapped (loaded bytes p) (fewHeld most) (fewHeld (most + 1)) rs freshRelay (λ j h. few-more most bytes p (getD rs j freshRelay))
+
+-- the relays of sound tables hold no more than one shard of each entry
+one-shard : (n : RelayNo) (e : Entry) → shardsOn n e ≤ 1
+unfolding shardsOn
+one-shard n e = omega (arith, bit-lt (usedEntry e && holdsShard n (e .placement)))
+
+pub sound-few : (t : Tables) (r : Relay) → length (t .entries) ≡ entryRows → soundRelay t r ≡ true → fewHeld entryRows r ≡ true
+unfolding fewHeld
+sound-few t r l e =
+    either-part (freeRelay r) (leb (r .capacity) capacityLimit && leb (r .held) entryRows)
+    (λ n.
+    let f = relay-facts t r (not-free-used (r .no .0) n) e in
+    let m = sum-le (shardsOn (r .no)) 1 (t .entries) freshEntry (λ j b. one-shard (r .no) (getD (t .entries) j freshEntry)) in
+    let g = eqb-true (r .held) (sumOf (shardsOn (r .no)) (t .entries)) (f .held) in
+    let q : r .held ≤ entryRows = omega (arith, m, g, l) in
+    and-both (f .capacity) (le-leb (r .held) entryRows q))
 
 -- placedPut is one step of placeAll
 module _ (clock k m : ℕ) (p : Put) (ps : List Put) (rs : List Relay) where
