@@ -1,0 +1,3 @@
+pub mod Transcript
+pub mod LineLaws
+pub mod Cases
