@@ -1,2 +1,3 @@
 pub mod OverLaws
+pub mod CarryLaws
 pub mod DigitLoops

@@ -4,4 +4,5 @@ pub mod TranscriptLaws
 pub mod LineLaws
 pub mod SmallAnswers
 pub mod RoomLaws
+pub mod Groups
 pub mod Cases

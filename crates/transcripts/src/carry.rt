@@ -1,0 +1,81 @@
+// The work of a record, group by group: the call's fields are taken from the record and its bytes, and the call's crate does it.
+ghost use mathlib.Core.Path.{_≡_};
+ghost use Rattle.rules.specs.Calls.{askRule};
+ghost use Rattle.relays.specs.Parts.{onRelays};
+ghost use Rattle.volumes.specs.Parts.{onVolumes, onDelete};
+ghost use Rattle.tokens.specs.Parts.{onTokens, unchanged};
+ghost use Rattle.entries.specs.Parts.{onRemove};
+ghost use Rattle.transcripts.specs.Groups.{relayAsk, volumeAsk, tokenAsk, deleteAsk, removeAsk, lookAsk};
+use super::RelayCall;
+use super::TokenCall;
+use super::VolumeCall;
+use entries::RemoveOutcome;
+use journal::Record;
+use journal::account_of;
+use journal::text_of;
+use relays::RelaysOutcome;
+use rules::Answer;
+use rules::RelayNo;
+use rules::Tables;
+use rules::TokenNo;
+use rules::VolumeNo;
+use tokens::TokensOutcome;
+use volumes::DeleteOutcome;
+use volumes::VolumesOutcome;
+
+pub(crate) fn relay_call(t: Tables, which: RelayCall, r: Record) -> RelaysOutcome
+    ensures { λ o. ⌜ onRelays t o ≡ askRule (relayAsk which r) t ⌝ }
+{
+    match which {
+        RelayCall::Register => relays::register_on(t, r.amount),
+        RelayCall::Heartbeat => relays::heartbeat_on(t, RelayNo(r.no)),
+    }
+}
+
+pub(crate) fn volume_call(t: Tables, which: VolumeCall, r: Record, body: &[u8]) -> VolumesOutcome
+    ensures { λ o. ⌜ onVolumes t o ≡ askRule (volumeAsk which r (now (body .entry))) t ⌝ }
+{
+    let cap = r.cap;
+    match which {
+        VolumeCall::Create => {
+            let a = account_of(body, r);
+            volumes::create_on(t, a, text_of(body, r), r.k, r.m, cap)
+        }
+        VolumeCall::Deposit => volumes::deposit_on(t, VolumeNo(r.no), r.amount),
+        VolumeCall::Undelete => volumes::undelete_on(t, account_of(body, r), VolumeNo(r.no)),
+    }
+}
+
+pub(crate) fn token_call(t: Tables, which: TokenCall, r: Record, body: &[u8]) -> TokensOutcome
+    ensures { λ o. ⌜ onTokens t o ≡ askRule (tokenAsk which r (now (body .entry))) t ⌝ }
+{
+    let n = r.no;
+    let mode = r.mode;
+    let cap = r.cap;
+    let a = account_of(body, r);
+    let text = text_of(body, r);
+    match which {
+        TokenCall::Grant => tokens::grant_on(t, a, VolumeNo(n), text, mode, cap, r.from, r.until),
+        TokenCall::Attenuate => tokens::attenuate_on(t, TokenNo(n), text, mode, cap, r.from, r.until),
+        TokenCall::Revoke => tokens::revoke_on(t, a, TokenNo(n)),
+    }
+}
+
+pub(crate) fn delete_call(t: Tables, r: Record, body: &[u8]) -> DeleteOutcome
+    ensures { λ o. ⌜ onDelete t o ≡ askRule (deleteAsk r (now (body .entry))) t ⌝ }
+{
+    volumes::delete_on(t, account_of(body, r), VolumeNo(r.no))
+}
+
+pub(crate) fn remove_call(t: Tables, r: Record, body: &[u8]) -> RemoveOutcome
+    ensures { λ o. ⌜ onRemove t o ≡ askRule (removeAsk r (now (body .entry))) t ⌝ }
+{
+    let a = account_of(body, r);
+    entries::remove_on(t, a, VolumeNo(r.no), text_of(body, r))
+}
+
+pub(crate) fn look_call(t: Tables, r: Record, body: &[u8]) -> Answer
+    ensures { λ a. ⌜ unchanged t a ≡ askRule (lookAsk r (now (body .entry))) t ⌝ }
+{
+    tokens::look_on(t, TokenNo(r.no), text_of(body, r))
+}
