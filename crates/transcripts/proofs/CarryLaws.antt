@@ -1,26 +1,42 @@
 -- The work of a record is the rule of its call: the arm names the call, and its fields are what the record and its bytes hold. Assumes nothing.
 use mathlib.Core.Path.{_≡_, _∙_, ap}
 use mathlib.Core.List.{List}
-use Prim.Native.Nat.{ℕ}
+use Prim.Native.Nat.{ℕ, _<_, _≤_}
+use borrow.Author.Tests.{le-leb, lt-leb}
+use lib.ListN.{getD, set}
 use Rattle.rules.specs.declared.Account.{Account}
+use Rattle.rules.specs.declared.Answer.{Answer}
+use Rattle.rules.specs.declared.Hash.{Hash}
+use Rattle.rules.specs.declared.Session.{Session}
 use Rattle.rules.specs.declared.Tables.{Tables}
 use Rattle.rules.specs.declared.TablesOutcome.{TablesOutcome}
+use Rattle.rules.specs.declared.SlotOutcome.{SlotOutcome}
+use Rattle.rules.specs.Limits.{slotRows}
+use Rattle.rules.specs.Numbers.{BAD}
+use Rattle.rules.specs.Fresh.{freshSession}
+use Rattle.rules.specs.Outcome.{refusal}
+use Rattle.rules.specs.SessionCalls.{openRule, stageRule, abandonRule}
 use Rattle.rules.specs.VolumeCalls.{createRule, depositRule, deleteRule, undeleteRule, removeRule}
 use Rattle.rules.specs.TokenCalls.{grantRule, attenuateRule, revokeRule, lookRule}
 use Rattle.rules.specs.RelayCalls.{registerRule, heartbeatRule}
-use Rattle.rules.specs.Calls.{askRule}
+use Rattle.rules.specs.Calls.{askRule, Work, workRule, Call, rule}
+use Rattle.sessions.specs.declared.SessionOutcome.{SessionOutcome}
+use Rattle.sessions.specs.Parts.{onSession}
 use Rattle.tokens.specs.Parts.{scopeArg}
 use Rattle.journal.specs.declared.Kind.{Kind}
 use Rattle.journal.specs.declared.Record.{Record}
-use Rattle.journal.specs.Places.{accountAt, textAt}
+use Rattle.journal.specs.Places.{accountAt, textAt, hashAt}
 use Rattle.transcripts.specs.declared.RelayCall.{RelayCall}
 use Rattle.transcripts.specs.declared.RelayCall.the-variants as relay
 use Rattle.transcripts.specs.declared.VolumeCall.{VolumeCall}
 use Rattle.transcripts.specs.declared.VolumeCall.the-variants as volume
 use Rattle.transcripts.specs.declared.TokenCall.{TokenCall}
 use Rattle.transcripts.specs.declared.TokenCall.the-variants as token
+use Rattle.transcripts.specs.declared.SlotCall.{SlotCall}
+use Rattle.transcripts.specs.declared.SlotCall.the-variants as slot
 use Rattle.transcripts.specs.declared.Group.{Group}
-use Rattle.transcripts.specs.Groups.{groupOf, relayAsk, volumeAsk, tokenAsk, deleteAsk, removeAsk, lookAsk}
+use Rattle.transcripts.specs.Groups.{groupOf, relayAsk, volumeAsk, tokenAsk, deleteAsk, removeAsk, lookAsk, slotWork}
+use Rattle.transcripts.specs.Parts.{deskOf}
 
 pub kind-arm : (k j : Kind) (g : Group) → k ≡ j → g ≡ groupOf j → g ≡ groupOf k
 kind-arm k j g e f = rw e f
@@ -76,3 +92,29 @@ module _ (t : Tables) (x : TablesOutcome) (r : Record) where
         pub removes : x ≡ removeRule a (record { 0 = r .no }) name t → x ≡ askRule (removeAsk r l) t
         unfolding askRule
         removes f = rw (← ea, ← en) f
+
+-- the calls on a slot, on its session s
+module _ (t : Tables) (s : Session) (x : SlotOutcome) (r : Record) (l : List ℕ) (w : SlotCall) where
+  pub opening : w ≡ slot.Open → x ≡ openRule (record { 0 = r .no }) t s → x ≡ workRule (slotWork w r l) t s
+  unfolding workRule
+  opening e f = rw e f
+
+  pub staging : (name : List ℕ) (h : Hash) → w ≡ slot.Stage → name ≡ textAt r l → h .0 ≡ hashAt r l → x ≡ stageRule name (r .amount) h t s
+      → x ≡ workRule (slotWork w r l) t s
+  unfolding workRule
+  staging name h e en eh f = rw (e, ← en, ← eh) f
+
+  pub abandoning : w ≡ slot.Abandon → x ≡ abandonRule t s → x ≡ workRule (slotWork w r l) t s
+  unfolding workRule
+  abandoning e f = rw e f
+
+-- on the desk: there is no such slot, or the call was worked on the slot's session
+module _ (t : Tables) (slots : List Session) (j : ℕ) (w : Work) where
+  pub no-slot : (a : Answer) → 4 ≤ j → a ≡ refusal BAD → record { answer = a; desk = deskOf t slots } ≡ rule (Call.onSlot j w) (deskOf t slots)
+  unfolding rule
+  no-slot a h e = rw (le-leb slotRows j h, e)
+
+  pub on-slot : (s : Session) (o : SessionOutcome) → j < 4 → s ≡ getD slots j freshSession → onSession t o ≡ workRule w t s
+      → record { answer = o .answer; desk = deskOf t (set slots j (o .session)) } ≡ rule (Call.onSlot j w) (deskOf t slots)
+  unfolding rule
+  on-slot s o h e f = rw (lt-leb slotRows j h, ← e, ← f)

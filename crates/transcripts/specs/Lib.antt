@@ -5,4 +5,5 @@ pub mod LineLaws
 pub mod SmallAnswers
 pub mod RoomLaws
 pub mod Groups
+pub mod Parts
 pub mod Cases

@@ -1,0 +1,21 @@
+-- `slot_work` meets its contract: by the call. Assumes nothing.
+use borrow.Author.Needs.{needs}
+use Rattle.transcripts.proofs.CarryLaws.{opening, staging, abandoning}
+use Rattle.transcripts.proofs.carry.slot_work.Statement.{statement}
+use Rattle.transcripts.proofs.carry.slot_work.Tie as tie
+
+pub slot-work-spec : {M : Type 1} → statement M
+slot-work-spec =
+    tie.close
+    (tie.spec
+    (λ c. search needs)
+    (λ c κs. search needs)
+    (λ c. search needs)
+    (λ c κs. search needs)
+    (λ c κs. search needs)
+    (λ c κs. search needs)
+    (λ c. search needs)
+    (λ c κs. search needs)
+    (λ c. search opening)
+    (λ c. search staging)
+    (λ c. search abandoning))
