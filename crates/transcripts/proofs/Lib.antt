@@ -1,3 +1,5 @@
 pub mod OverLaws
 pub mod CarryLaws
+pub mod ReplayLaws
+pub mod GroupLaws
 pub mod DigitLoops

@@ -45,11 +45,11 @@ unfolding readRecord parse
 some-body [] c e = absurd (let z : _≡_ {A = ℕ} 0 1 = cc in omega arith)
 some-body (b ∷ l) c e = omega arith
 
-record Apart (l body rest : List ℕ) : Type 0 where
-  size : length l ≡ 2 + length body + length rest
-  bytes : areBytes rest ≡ true
+pub record Apart (l body rest : List ℕ) : Type 0 where
+  pub size : length l ≡ 2 + length body + length rest
+  pub bytes : areBytes rest ≡ true
 
-apart : (l body rest : List ℕ) → areBytes l ≡ true → framed l ≡ found body rest → Apart l body rest
+pub apart : (l body rest : List ℕ) → areBytes l ≡ true → framed l ≡ found body rest → Apart l body rest
 unfolding encode
 apart l body rest h e =
     let t = decode-taken (text 2 65535) l body rest h e in
@@ -83,8 +83,8 @@ module _ (l : List ℕ) (h : areBytes l ≡ true) (n : ℕ) (d : Desk) (i : Desk
       let a = apart l body rest h e in
       let w = some-body body c r in
       let z : Small (step c d .answer) = rw (answered c d i) (small-answer c d (i .passes)) in
-      let line = recordLine (n + 1) (step c d .answer .number) (step c d .answer .value) in
-      let p = line-most (n + 1) (step c d .answer .number) (step c d .answer .value) (omega (arith, a .size)) (z .number) (z .value) in
+      let line = recordLine (n + 1) (step c d .answer) in
+      let p = line-most (n + 1) (step c d .answer) (omega (arith, a .size)) (z .number) (z .value) in
       let q = others rest (omega (arith, a .size)) (a .bytes) (n + 1) (step c d .desk) (call-keeps c d i) (omega (arith, a .size)) in
       rw (from-call n d c (records v01 rest), length-append line (printedFrom (n + 1) (step c d .desk) (records v01 rest))) (omega (arith, a .size, p, q))
 

@@ -23,12 +23,12 @@ from-start c = append-assoc firstLine (recordLines 1 (answers (c .calls) (freshD
 module _ (n : ℕ) (d : Desk) where
   -- a record, then the others
   pub from-call : (c : Call) (j : Contents)
-      → printedFrom n d (after c j) ≡ recordLine (n + 1) (step c d .answer .number) (step c d .answer .value) ++ printedFrom (n + 1) (step c d .desk) j
+      → printedFrom n d (after c j) ≡ recordLine (n + 1) (step c d .answer) ++ printedFrom (n + 1) (step c d .desk) j
   unfolding printedFrom recordLines answers
   from-call c j =
       let e : n + length (c ∷ j .calls) ≡ n + 1 + length (j .calls) = omega arith in
       rw e
-      (append-assoc (recordLine (n + 1) (step c d .answer .number) (step c d .answer .value)) (recordLines (n + 1 + 1) (answers (j .calls) (step c d .desk)))
+      (append-assoc (recordLine (n + 1) (step c d .answer)) (recordLines (n + 1 + 1) (answers (j .calls) (step c d .desk)))
       (lastLine (n + 1 + length (j .calls)) (j .ending)))
 
   -- a fault, or the end

@@ -67,7 +67,15 @@ pub(crate) fn token_call(t: Tables, which: TokenCall, r: Record, body: &[u8]) ->
     let text = text_of(body, r);
     match which {
         TokenCall::Grant => tokens::grant_on(t, a, VolumeNo(n), text, mode, cap, r.from, r.until),
-        TokenCall::Attenuate => tokens::attenuate_on(t, TokenNo(n), text, mode, cap, r.from, r.until),
+        TokenCall::Attenuate => tokens::attenuate_on(
+            t,
+            TokenNo(n),
+            text,
+            mode,
+            cap,
+            r.from,
+            r.until,
+        ),
         TokenCall::Revoke => tokens::revoke_on(t, a, TokenNo(n)),
     }
 }

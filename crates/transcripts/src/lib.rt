@@ -4,9 +4,15 @@ mod carry;
 mod digits;
 mod groups;
 mod lines;
+mod replay;
+mod soon;
 
 use rules::Answer;
+use rules::Entry;
+use rules::Relay;
 use rules::Session;
+use rules::Token;
+use rules::Volume;
 
 // The calls by the part of the desk that they change, for the calls that change the same.
 pub enum RelayCall {
@@ -48,4 +54,23 @@ pub enum Group {
 pub struct SlotsOutcome {
     pub answer: Answer,
     pub sessions: [Session; 4],
+}
+
+// What a commit on a slot leaves: the tables that it changes, and the four slots.
+pub struct CommitsOutcome {
+    pub answer: Answer,
+    pub volumes: [Volume; 8],
+    pub entries: [Entry; 64],
+    pub tokens: [Token; 32],
+    pub relays: [Relay; 32],
+    pub sessions: [Session; 4],
+}
+
+pub struct AdvanceOutcome {
+    pub answer: Answer,
+    pub clock: u64,
+    pub volumes: [Volume; 8],
+    pub entries: [Entry; 64],
+    pub tokens: [Token; 32],
+    pub relays: [Relay; 32],
 }
