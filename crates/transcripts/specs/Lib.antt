@@ -7,5 +7,7 @@ pub mod SmallAnswers
 pub mod RoomLaws
 pub mod NextLaws
 pub mod Groups
+pub mod ItemLaws
 pub mod Parts
+pub mod Soon
 pub mod Cases

@@ -6,7 +6,7 @@ use Prim.Native.Nat.{ℕ, _+_, _-_, _<_, _≤_}
 use native.Mathlib.Omega.{arith}
 use lib.Pow.{areBytes}
 use lib.ListN.{length, take, drop, length-drop}
-use lib.Seq.{drop-drop, take-all}
+use lib.Seq.{drop-drop}
 use Rattle.rules.specs.declared.Desk.{Desk}
 use Rattle.rules.specs.Calls.{step}
 use Rattle.journal.specs.declared.Record.{Record}
@@ -52,38 +52,34 @@ whole-sized (b ∷ l) h r n e = by (framed (b ∷ l)) refl e
     by nothing f e = absurd (let z : _≡_ {A = ℕ} 0 1 = cc in omega arith)
     by (found body rest) f e = whole-read (b ∷ l) body rest h f (readAt v01 body) refl r n e
 
--- the bytes that the code has from a place on, and those of the record there
-abbrev pub onFrom : ℕ → List ℕ → List ℕ
-onFrom p l = take (length l - p) (drop p l)
-
+-- the bytes of the record at a place, which ends before `after`
 abbrev pub bodyAt : ℕ → ℕ → List ℕ → List ℕ
-bodyAt p k l = take (p + k - (p + 2)) (drop (p + 2) l)
+bodyAt p after l = take (after - (p + 2)) (drop (p + 2) l)
 
-module _ (l : List ℕ) (h : areBytes l ≡ true) (p : ℕ) (next : Next) (e : next ≡ nextIn v01 (onFrom p l)) (n : ℕ) (d : Desk) where
-  next-here : nextIn v01 (drop p l) ≡ next
-  next-here = sym (e ∙ ap (nextIn v01) (take-all (length l - p) (drop p l) (omega (arith, length-drop p l))))
+pub record-sized : (l : List ℕ) → areBytes l ≡ true → (p : ℕ) (r : Record) (k : ℕ) → nextIn v01 (drop p l) ≡ Whole r k → Sized (drop p l) k
+record-sized l h p r k e = whole-sized (drop p l) (bytes-drop p l h) r k e
 
-  holds-next : records v01 (drop p l) ≡ afterNext v01 (drop p l) next
-  holds-next = next-gives-the-contents v01 (drop p l) (bytes-drop p l h) ∙ ap (afterNext v01 (drop p l)) next-here
+-- what is still to be printed there, by what stands next
+module _ (l : List ℕ) (h : areBytes l ≡ true) (p n : ℕ) (d : Desk) where
+  abbrev left : List ℕ
+  left = printedFrom n d (records v01 (drop p l))
 
-  -- what is still to be printed there
-  pub left-at-end : next ≡ End → printedFrom n d (records v01 (drop p l)) ≡ lastLine n end
-  left-at-end w = ap (printedFrom n d) (rw w at holds-next) ∙ from-end n d
+  holds-next : (next : Next) → nextIn v01 (drop p l) ≡ next → left ≡ printedFrom n d (afterNext v01 (drop p l) next)
+  holds-next next e = ap (printedFrom n d) (next-gives-the-contents v01 (drop p l) (bytes-drop p l h) ∙ ap (afterNext v01 (drop p l)) e)
 
-  pub left-at-stop : (number : ℕ) → next ≡ Stop number → printedFrom n d (records v01 (drop p l)) ≡ lastLine n (stop number)
-  left-at-stop number w = ap (printedFrom n d) (rw w at holds-next) ∙ from-stop n d number
+  pub left-at-end : nextIn v01 (drop p l) ≡ End → printedFrom n d (records v01 (drop p l)) ≡ lastLine n end
+  left-at-end e = holds-next End e ∙ from-end n d
 
-  module _ (r : Record) (k : ℕ) (w : next ≡ Whole r k) where
-    pub record-sized : Sized (drop p l) k
-    record-sized = whole-sized (drop p l) (bytes-drop p l h) r k (next-here ∙ w)
+  pub left-at-stop : (number : ℕ) → nextIn v01 (drop p l) ≡ Stop number → printedFrom n d (records v01 (drop p l)) ≡ lastLine n (stop number)
+  left-at-stop number e = holds-next (Stop number) e ∙ from-stop n d number
 
-    record-body : take (k - 2) (drop 2 (drop p l)) ≡ bodyAt p k l
+  module _ (r : Record) (k : ℕ) (e : nextIn v01 (drop p l) ≡ Whole r k) where
+    record-body : take (k - 2) (drop 2 (drop p l)) ≡ bodyAt p (p + k) l
     record-body =
-        let s : k - 2 ≡ p + k - (p + 2) = omega (arith, record-sized .least) in
+        let s : k - 2 ≡ p + k - (p + 2) = omega (arith, record-sized l h p r k e .least) in
         rw (s, drop-drop 2 p l)
 
-    pub left-at-record : let c = callAt v01 r (bodyAt p k l) in
-        printedFrom n d (records v01 (drop p l))
-        ≡ recordLine (n + 1) (step c d .answer) ++ printedFrom (n + 1) (step c d .desk) (records v01 (drop (p + k) l))
+    pub left-at-record : let c = callAt v01 r (bodyAt p (p + k) l) in
+        printedFrom n d (records v01 (drop p l)) ≡ recordLine (n + 1) (step c d .answer) ++ printedFrom (n + 1) (step c d .desk) (records v01 (drop (p + k) l))
     left-at-record =
-        ap (printedFrom n d) (rw w at holds-next) ∙ rw (record-body, drop-drop k p l) (from-call n d (callAt v01 r (bodyAt p k l)) (records v01 (drop (p + k) l)))
+        holds-next (Whole r k) e ∙ rw (record-body, drop-drop k p l) (from-call n d (callAt v01 r (bodyAt p (p + k) l)) (records v01 (drop (p + k) l)))

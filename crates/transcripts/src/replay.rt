@@ -11,26 +11,24 @@ ghost use Rattle.transcripts.specs.Transcript.{programRate};
 ghost use Rattle.transcripts.specs.TranscriptLaws.{printedFrom};
 ghost use Rattle.transcripts.specs.Written.{Wrote};
 use super::Group;
-use super::carry::delete_call;
 use super::carry::look_call;
 use super::carry::relay_call;
-use super::carry::remove_call;
 use super::carry::slot_call;
 use super::carry::token_call;
 use super::carry::volume_call;
-use super::groups::group_of;
+use super::items::body_at;
+use super::items::item_at;
 use super::lines::put_end_line;
 use super::lines::put_record_line;
 use super::lines::put_stop_line;
-use super::soon::advance_call;
-use super::soon::commit_call;
-use journal::Next;
-use journal::next_record;
+use super::whole::wide_call;
+use rules::Desk;
 
 // The price of storage on the program's desk.
 const RATE: u16 = 100;
 
-// The records of a journal one after another, and the last line.
+// The records of a journal one after another, and the last line. Each call's part is stored in place, so that a heartbeat moves
+// the relay table and nothing else.
 fn replay_records(journal: &[u8], out: &mut [u8], start: usize) -> usize
     requires { ⌜ (areBytes (now journal) ≡ true) × (length (now journal) < 65536) × (start + length (printedFrom 0 (freshDesk programRate) (records v01 (now journal))) ≤ length (now out)) ⌝ }
     ensures { λ r. ⌜ Wrote start (printedFrom 0 (freshDesk programRate) (records v01 (now (journal .entry)))) (now (out .entry)) r (now (out .exit)) ⌝ }
@@ -42,95 +40,58 @@ fn replay_records(journal: &[u8], out: &mut [u8], start: usize) -> usize
     let mut p: usize = 0;
     let mut at = start;
     loop {
-        let next = next_record(&journal[p..]);
-        match next {
-            Next::End => return put_end_line(out, at, n),
-            Next::Stop(number) => return put_stop_line(out, at, n, number),
-            Next::Whole(r, len) => {
-                let from = p + 2;
-                p += len;
-                let body = &journal[from..p];
-                let kind = r.kind;
-                let group = group_of(kind);
-                let answer = match group {
-                    Group::Relays(which) => {
-                        let o = relay_call(t, which, r);
-                        let relays = o.relays;
-                        t.relays = relays;
-                        t.last_relay = o.last;
-                        o.answer
-                    }
-                    Group::Volumes(which) => {
-                        let o = volume_call(t, which, r, body);
-                        let volumes = o.volumes;
-                        t.volumes = volumes;
-                        t.last_volume = o.last;
-                        t.deposits = o.deposits;
-                        o.answer
-                    }
-                    Group::Tokens(which) => {
-                        let o = token_call(t, which, r, body);
-                        let tokens = o.tokens;
-                        t.tokens = tokens;
-                        t.last_token = o.last;
-                        o.answer
-                    }
-                    Group::Slot(which) => {
-                        let o = slot_call(t, slots, which, r, body);
-                        let sessions = o.sessions;
-                        slots = sessions;
-                        o.answer
-                    }
-                    Group::Delete => {
-                        let o = delete_call(t, r, body);
-                        let volumes = o.volumes;
-                        let tokens = o.tokens;
-                        t.volumes = volumes;
-                        t.tokens = tokens;
-                        o.answer
-                    }
-                    Group::Remove => {
-                        let o = remove_call(t, r, body);
-                        let volumes = o.volumes;
-                        let entries = o.entries;
-                        let relays = o.relays;
-                        t.volumes = volumes;
-                        t.entries = entries;
-                        t.relays = relays;
-                        o.answer
-                    }
-                    Group::Look => look_call(t, r, body),
-                    Group::Commit => {
-                        let o = commit_call(t, slots, r);
-                        let volumes = o.volumes;
-                        let entries = o.entries;
-                        let tokens = o.tokens;
-                        let relays = o.relays;
-                        let sessions = o.sessions;
-                        t.volumes = volumes;
-                        t.entries = entries;
-                        t.tokens = tokens;
-                        t.relays = relays;
-                        slots = sessions;
-                        o.answer
-                    }
-                    Group::Advance => {
-                        let o = advance_call(t, slots, r);
-                        let volumes = o.volumes;
-                        let entries = o.entries;
-                        let tokens = o.tokens;
-                        let relays = o.relays;
-                        t.clock = o.clock;
-                        t.volumes = volumes;
-                        t.entries = entries;
-                        t.tokens = tokens;
-                        t.relays = relays;
-                        o.answer
-                    }
-                };
-                n += 1;
-                at = put_record_line(out, at, n, answer);
+        let item = item_at(journal, p);
+        let r = item.fields;
+        let group = item.group;
+        let body = body_at(journal, p, item.after);
+        let answer = match group {
+            Group::End => return put_end_line(out, at, n),
+            Group::Stop(number) => return put_stop_line(out, at, n, number),
+            Group::Relays(which) => {
+                let o = relay_call(t, which, r);
+                let relays = o.relays;
+                t.relays = relays;
+                t.last_relay = o.last;
+                o.answer
             }
-        }
+            Group::Volumes(which) => {
+                let o = volume_call(t, which, r, body);
+                let volumes = o.volumes;
+                t.volumes = volumes;
+                t.last_volume = o.last;
+                t.deposits = o.deposits;
+                o.answer
+            }
+            Group::Tokens(which) => {
+                let o = token_call(t, which, r, body);
+                let tokens = o.tokens;
+                t.tokens = tokens;
+                t.last_token = o.last;
+                o.answer
+            }
+            Group::Slot(which) => {
+                let o = slot_call(t, slots, which, r, body);
+                let sessions = o.sessions;
+                slots = sessions;
+                o.answer
+            }
+            Group::Look => look_call(t, r, body),
+            Group::Wide(which) => {
+                let d = Desk {
+                    tables: t,
+                    sessions: slots,
+                };
+                let o = wide_call(d, which, r, body);
+                let desk = o.desk;
+                let tables = desk.tables;
+                let sessions = desk.sessions;
+                t = tables;
+                slots = sessions;
+                o.answer
+            }
+        };
+        p = item.after;
+        n += 1;
+        at = put_record_line(out, at, n, answer);
     }
 }

@@ -1,17 +1,16 @@
 ghost use mathlib.Core.Path.{_≡_};
 ghost use mathlib.Core.Bool.{true};
-ghost use Rattle.rules.specs.Sound.{sound};
-ghost use Rattle.rules.specs.Calls.{Ask, askRule, Work, Call, rule};
-ghost use Rattle.transcripts.specs.Parts.{deskOf, onAdvance, onCommits};
+ghost use Rattle.rules.specs.Sound.{soundTables};
+ghost use Rattle.rules.specs.Advance.{advanceRule};
+ghost use Rattle.rules.specs.Commit.{commitRule};
+ghost use Rattle.transcripts.specs.Soon.{onAdvance, onCommit};
 use super::AdvanceOutcome;
-use super::CommitsOutcome;
-use journal::Record;
+use super::CommitOutcome;
 use rules::Session;
 use rules::Tables;
 
-pub(crate) fn advance_call(t: Tables, slots: [Session; 4], r: Record) -> AdvanceOutcome
-    requires { ⌜ sound (deskOf t slots) ≡ true ⌝ }
-    ensures { λ o. ⌜ onAdvance t o ≡ askRule (Ask.advance (r .amount)) t ⌝ }
+pub(crate) fn advance_on(t: Tables, block: u64) -> AdvanceOutcome
+    ensures { λ o. ⌜ onAdvance t o ≡ advanceRule block t ⌝ }
 {
     let answer = rules::refusal(1);
     let volumes = t.volumes;
@@ -28,21 +27,20 @@ pub(crate) fn advance_call(t: Tables, slots: [Session; 4], r: Record) -> Advance
     }
 }
 
-pub(crate) fn commit_call(t: Tables, slots: [Session; 4], r: Record) -> CommitsOutcome
-    requires { ⌜ sound (deskOf t slots) ≡ true ⌝ }
-    ensures { λ o. ⌜ onCommits t o ≡ rule (Call.onSlot (r .slot) Work.commits) (deskOf t slots) ⌝ }
+pub(crate) fn commit_on(t: Tables, s: Session) -> CommitOutcome
+    ensures { λ o. ⌜ onCommit t o ≡ commitRule t s ⌝ }
 {
     let answer = rules::refusal(1);
     let volumes = t.volumes;
     let entries = t.entries;
     let tokens = t.tokens;
     let relays = t.relays;
-    CommitsOutcome {
+    CommitOutcome {
         answer,
         volumes,
         entries,
         tokens,
         relays,
-        sessions: slots,
+        session: s,
     }
 }

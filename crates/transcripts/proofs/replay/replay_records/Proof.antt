@@ -2,9 +2,9 @@
 use mathlib.Core.Logic.{⊎-elim}
 use Prim.Native.Nat.{_-_}
 use lib.ListN.{length}
-use Rattle.transcripts.proofs.GroupLaws.{relays-said, relays-carried, volumes-said, volumes-carried, tokens-said, tokens-carried, slot-said, slot-carried, delete-said, delete-carried, remove-said, remove-carried, look-said, look-carried, commit-said, commit-carried, advance-said, advance-carried}
+use Rattle.transcripts.proofs.GroupLaws.{relays-stand, relays-said, relays-carried, volumes-stand, volumes-said, volumes-carried, tokens-stand, tokens-said, tokens-carried, slot-stand, slot-said, slot-carried, look-stand, look-said, look-carried, wide-stand, wide-said, wide-carried}
 use borrow.Author.Needs.{needs}
-use Rattle.transcripts.proofs.ReplayLaws.{ReplayLoop, replay-start, replay-sound, ends, stops, sizes, line-room, replay-step}
+use Rattle.transcripts.proofs.ReplayLaws.{ReplayLoop, replay-start, replay-sound, count-fits, ends, stops, places, line-room, fewer-left, replay-step}
 use Rattle.transcripts.proofs.replay.replay_records.Statement.{statement}
 use Rattle.transcripts.proofs.replay.replay_records.Tie as tie
 
@@ -17,10 +17,8 @@ replay-records-spec =
     (λ c κs. search needs)
     (λ c κs. search needs)
     (λ c. search (replay-start, needs))
-    (λ c. search needs)
-    (λ c. search needs)
-    (λ c. search needs)
     (λ c κs. search needs)
+    (λ c κs. search places)
     (λ c. search needs)
     (λ c κs. search ends)
     (λ c. search needs)
@@ -30,17 +28,6 @@ replay-records-spec =
     (λ c. search needs)
     (λ c. search stops)
     (λ c. search needs)
-    (λ c. search sizes)
-    (λ c. search sizes)
-    (λ c. search sizes)
-    (λ c. search sizes)
-    (λ c. search sizes)
-    (λ c κs. search needs)
-    (λ c. search needs)
-    (λ c κs. search needs)
-    (λ c. search needs)
-    (λ c κs. search needs)
-    (λ c. search needs)
     (λ c κs. search needs)
     (λ c. search needs)
     (λ c κs. search needs)
@@ -52,17 +39,22 @@ replay-records-spec =
     (λ c κs. search needs)
     (λ c. search needs)
     (λ c κs. search replay-sound)
-    (λ c. search needs)
-    (λ c κs. search replay-sound)
-    (λ c. search sizes)
+    (λ c. search count-fits)
     (λ c κs. ⊎-elim (λ w. search (line-room, relays-said))
     (⊎-elim (λ w. search (line-room, volumes-said))
     (⊎-elim (λ w. search (line-room, tokens-said))
     (⊎-elim (λ w. search (line-room, slot-said))
-    (⊎-elim (λ w. search (line-room, delete-said))
-    (⊎-elim (λ w. search (line-room, remove-said))
     (⊎-elim (λ w. search (line-room, look-said))
-    (⊎-elim (λ w. search (line-room, commit-said))
-    (λ w. search (line-room, advance-said))))))))) (c .before .match2 .came))
-    (λ c. search sizes)
-    (λ c. ⊎-elim (λ w. let h = c .before .before .before .before .before .before .before .before .before .before .before .before .loop .inv in let e = c .before .before .before .before .before .before .before .before .before .before .next-record .ensures in let n2 = c .before .before .before .before .before .before .before .before .next2 .given .1 in let pr = c .before .before .put-record-line .ensures in let g = c .before .before .before .before .before .group-of .ensures in search (replay-step, relays-carried)) (λ w. ?) (c .before .before .before .before .match2 .came)))
+    (λ w. search (line-room, wide-said)))))) (c .before .match .came))
+    (λ c. ⊎-elim (λ w. search (fewer-left, relays-stand))
+    (⊎-elim (λ w. search (fewer-left, volumes-stand))
+    (⊎-elim (λ w. search (fewer-left, tokens-stand))
+    (⊎-elim (λ w. search (fewer-left, slot-stand))
+    (⊎-elim (λ w. search (fewer-left, look-stand))
+    (λ w. search (fewer-left, wide-stand)))))) (c .before .before .before .before .match .came))
+    (λ c. ⊎-elim (λ w. search (replay-step, relays-carried))
+    (⊎-elim (λ w. search (replay-step, volumes-carried))
+    (⊎-elim (λ w. search (replay-step, tokens-carried))
+    (⊎-elim (λ w. search (replay-step, slot-carried))
+    (⊎-elim (λ w. search (replay-step, look-carried))
+    (λ w. search (replay-step, wide-carried)))))) (c .before .before .before .before .match .came)))

@@ -1,0 +1,17 @@
+use borrow.Author.Needs.{needs}
+use Rattle.transcripts.proofs.soon.commit_on.Statement.{statement}
+use Rattle.transcripts.proofs.soon.commit_on.Tie as tie
+use Rattle.transcripts.proofs.soon.commit_on.Reads as reads
+use Rattle.transcripts.proofs.soon.commit_on.Lts as lts
+use Rattle.rules.proofs.refusal.Reads as refusal-reads
+
+-- src/soon.rt:33:9
+refusal-requires : tie.Need-refusal-requires
+refusal-requires c κs = search needs
+
+-- src/soon.rt:30:1
+returns : tie.Need-returns
+returns c = ?
+
+pub commit-on-spec : {M : Type 1} → statement M
+commit-on-spec = tie.close (tie.spec refusal-requires returns)
