@@ -4,3 +4,4 @@ pub mod ItemAnswers
 pub mod DigitLoops
 pub mod ReplayLaws
 pub mod GroupLaws
+pub mod ReplayAnswers

@@ -10,4 +10,5 @@ pub mod Groups
 pub mod ItemLaws
 pub mod Parts
 pub mod Soon
+pub mod Replay
 pub mod Cases

@@ -9,6 +9,8 @@ mod soon;
 mod whole;
 
 use journal::Record;
+pub use replay::replay_into;
+pub use replay::room_for;
 use rules::Answer;
 use rules::Entry;
 use rules::Relay;

@@ -7,6 +7,8 @@ ghost use lib.Pow.{areBytes};
 ghost use Rattle.rules.specs.Fresh.{freshDesk};
 ghost use Rattle.journal.specs.Records.{v01};
 ghost use Rattle.journal.specs.Journal.{records};
+ghost use Rattle.transcripts.specs.Replay.{answerOf, bufferOf};
+ghost use Rattle.transcripts.specs.Room.{roomFor};
 ghost use Rattle.transcripts.specs.Transcript.{programRate};
 ghost use Rattle.transcripts.specs.TranscriptLaws.{printedFrom};
 ghost use Rattle.transcripts.specs.Written.{Wrote};
@@ -19,10 +21,14 @@ use super::carry::volume_call;
 use super::items::body_at;
 use super::items::item_at;
 use super::lines::put_end_line;
+use super::lines::put_first_line;
 use super::lines::put_record_line;
 use super::lines::put_stop_line;
 use super::whole::wide_call;
+use journal::Written;
+use journal::start_fault;
 use rules::Desk;
+use rules::numbers::ROOM;
 
 // The price of storage on the program's desk.
 const RATE: u16 = 100;
@@ -94,4 +100,39 @@ fn replay_records(journal: &[u8], out: &mut [u8], start: usize) -> usize
         n += 1;
         at = put_record_line(out, at, n, answer);
     }
+}
+
+// The most bytes of a journal whose records are read.
+const JOURNAL_MOST: usize = 65536;
+
+// How many bytes a buffer must have for the transcript of a journal of so many bytes; 655,381 are enough for any.
+pub fn room_for(journal: usize) -> usize
+    ensures { λ r. ⌜ r ≡ roomFor journal ⌝ }
+{
+    if JOURNAL_MOST < journal {
+        return 21 + 10 * JOURNAL_MOST;
+    }
+    21 + 10 * journal
+}
+
+// Writes the transcript of a journal at the start of a buffer, and gives its length; or refuses with 12, and leaves the buffer as
+// it was.
+pub fn replay_into(journal: &[u8], out: &mut [u8]) -> Written
+    ensures answer { λ r. ⌜ r ≡ answerOf (now (journal .entry)) (now (out .entry)) ⌝ }
+    ensures buffer { λ r. ⌜ now (out .exit) ≡ bufferOf (now (journal .entry)) (now (out .entry)) ⌝ }
+{
+    if out.len() < room_for(journal.len()) {
+        return Written {
+            number: ROOM,
+            len: 0,
+        };
+    }
+    let at = put_first_line(out, 0);
+    let fault = start_fault(journal);
+    if fault != 0 {
+        let len = put_stop_line(out, at, 0, fault);
+        return Written { number: 0, len };
+    }
+    let len = replay_records(&journal[1..], out, at);
+    Written { number: 0, len }
 }
