@@ -1,0 +1,3 @@
+pub mod FamilyLaws
+pub mod QuotaLaws
+pub mod PlaceLoops
