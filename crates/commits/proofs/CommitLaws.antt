@@ -28,7 +28,7 @@ use Rattle.rules.specs.declared.SlotOutcome.{SlotOutcome}
 use Rattle.rules.specs.Limits.{putRows}
 use Rattle.rules.specs.Numbers.{NO-PLACE}
 use Rattle.rules.specs.Fresh.{freshSession}
-use Rattle.rules.specs.Tables.{isVolume, isToken, staged, withVolumes, withEntries, withTokens, withRelays, withVersion}
+use Rattle.rules.specs.Tables.{freeVolume, isVolume, isToken, staged, withVolumes, withEntries, withTokens, withRelays, withVersion}
 use Rattle.rules.specs.Scope.{family, passesQuota}
 use Rattle.rules.specs.Relays.{lightened}
 use Rattle.rules.specs.Sound.{shardsFit}
@@ -91,16 +91,21 @@ module _ (t : Tables) (s : Session) (e : within t s ≡ true) where
       leb-true (s .count) putRows
       (and-left (leb (s .count) putRows) (allOf putWithin (staged s)) (and-left (sessionWithin s) (allOf volumeWithin (t .volumes)) two))
 
-  -- K and M of a volume that was found
-  pub shards-within : (n : VolumeNo) (f : Found) (i : ℕ) → f ≡ firstAt (isVolume n) 0 (t .volumes) → f ≡ At i
-      → shardsFit (getD (t .volumes) i blankVolume .k) (getD (t .volumes) i blankVolume .m) ≡ true
-  unfolding volumeWithin
-  shards-within n f i q w =
-      let r = first-row (isVolume n) (t .volumes) i (sym q ∙ w) blankVolume in
-      let v = getD (t .volumes) i blankVolume in
-      let u = numbered-used (n .0) (v .no .0) (row-passes (isVolume n) (t .volumes) 0 i v r) in
-      other-part _ _ (used-not-free (v .no .0) u)
-      (all-at volumeWithin (t .volumes) volumes-within i (found-below (isVolume n) (t .volumes) i v r) blankVolume)
+-- K and M of a volume that was found
+shards-within : (vs : List Volume) (n : VolumeNo) (f : Found) (i : ℕ) → f ≡ firstAt (isVolume n) 0 vs → f ≡ At i → allOf volumeWithin vs ≡ true
+    → shardsFit (getD vs i blankVolume .k) (getD vs i blankVolume .m) ≡ true
+unfolding volumeWithin
+shards-within vs n f i q w e =
+    let r = first-row (isVolume n) vs i (sym q ∙ w) blankVolume in
+    let v = getD vs i blankVolume in
+    let u = numbered-used (n .0) (v .no .0) (row-passes (isVolume n) vs 0 i v r) in
+    other-part (freeVolume v) (shardsFit (v .k) (v .m)) (used-not-free (v .no .0) u) (all-at volumeWithin vs e i (found-below (isVolume n) vs i v r) blankVolume)
+
+-- where r said that the tables and the session are within the limits
+pub shards-told : (t : Tables) (s : Session) (r : Bool) (n : VolumeNo) (f : Found) (i : ℕ) → r ≡ within t s → not r ≡ false
+    → f ≡ firstAt (isVolume n) 0 (t .volumes) → f ≡ At i
+    → shardsFit (getD (t .volumes) i blankVolume .k) (getD (t .volumes) i blankVolume .m) ≡ true
+shards-told t s r n f i e g q w = shards-within (t .volumes) n f i q w (volumes-within t s (sym e ∙ not-false r g))
 
 pub ruleset limits = (relays-within, tokens-within, entries-within, puts-within, count-within)
 

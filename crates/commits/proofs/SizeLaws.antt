@@ -21,17 +21,16 @@ use Rattle.rules.specs.declared.VolumeNo.{VolumeNo}
 use Rattle.rules.specs.declared.Volume.{Volume}
 use Rattle.rules.specs.declared.Entry.{Entry}
 use Rattle.rules.specs.declared.Put.{Put}
-use Rattle.rules.specs.declared.Session.{Session}
 use Rattle.rules.specs.declared.Tables.{Tables}
-use Rattle.rules.specs.Limits.{putRows, entryRows, sizeLimit}
+use Rattle.rules.specs.Limits.{entryRows, sizeLimit}
 use Rattle.rules.specs.Fresh.{freshEntry, freshPut}
-use Rattle.rules.specs.Tables.{staged, usedEntry, freeEntry, inVolume}
+use Rattle.rules.specs.Tables.{usedEntry, freeEntry, inVolume}
 use Rattle.rules.specs.Sound.{shardsFit}
 use Rattle.rules.specs.Rent.{sizeOf, rentFor}
 use Rattle.rules.specs.Laws.ApartLaws.{used-not-free, other-part}
 use Rattle.rules.specs.Laws.NumberLaws.{numbered-used}
 use Rattle.rules.specs.Scope.{passesCap}
-use Rattle.rules.specs.Commit.{putSize, stagedBytes, isReplaced, isKept, sizesAfter, isNewPath, passesSize, passesRoom, belowRent}
+use Rattle.rules.specs.Commit.{putSize, stagedBytes, isReplaced, isKept, sizesAfter, isNewPath, passesSize, belowRent}
 use Rattle.rents.specs.declared.Rent.{Rent}
 use Rattle.rents.specs.declared.Rent.the-variants.{Coins, PastLimits}
 use Rattle.rents.specs.Within.{rawLimit, rentWithin}
@@ -45,7 +44,7 @@ module _ {A : Type 0} (d : A) (f : A → ℕ) (l : List A) (k n i sum : ℕ) (h 
   low : i < k
   low = omega (arith, h .size, length-take k l)
 
-  pub sum-adds-part : SumLoop f (take k l) n (i + 1) (sum + f (getD l i d))
+  sum-adds-part : SumLoop f (take k l) n (i + 1) (sum + f (getD l i d))
   sum-adds-part = sum-adds d f (take k l) n i sum (f (getD l i d)) (sum + f (getD l i d)) h w (rw (getD-take k l i d low)) refl
 
   sum-within-part : sum + f (getD l i d) ≤ sumOf f (take k l)
@@ -65,10 +64,13 @@ module _ (puts : List Put) (count : ℕ) (few : count ≤ 8) (fit : allOf putWit
     pub staged-fits : (d : Put) → i < n → Fits w64 (sum + getD puts i d .size)
     staged-fits d w = record { fits = omega (arith, sum-within-part d putSize puts count n i sum h w, staged-small) }
 
+    pub staged-adds : (d : Put) → i < n → SumLoop putSize (take count puts) n (i + 1) (sum + getD puts i d .size)
+    staged-adds d w = sum-adds-part d putSize puts count n i sum h w
+
     pub staged-most : n ≤ i → sum ≤ 8 * 2 ^ 36
     staged-most w = rw (sum-all putSize (take count puts) n i sum h w) staged-small
 
-pub ruleset stages = (sum-adds-part, staged-fits, staged-most, sum-all, sum-start, part-size, rows-length, needs)
+pub ruleset stages = (staged-adds, staged-fits, staged-most, sum-all, sum-start, part-size, rows-length, needs)
 
 -- the bytes of the entries that stay: what each entry adds
 abbrev keptSize : VolumeNo → List Put → Entry → ℕ
@@ -135,16 +137,14 @@ module _ (n : VolumeNo) (ps : List Put) (e : Entry) where
   kept-unless a b q t r = rw (r, sym q ∙ not-false a t)
 
 -- the number of entries after the commit
-module _ (t : Tables) (v : Volume) (s : Session) where
-  pub room-fits : (used new : ℕ) → used ≡ countIf usedEntry (t .entries) → new ≡ countIf (isNewPath (v .no) (t .entries)) (take (s .count) (s .puts)) → length (t .entries) ≡ 64
-      → length (s .puts) ≡ 8 → Fits w64 (used + new)
-  room-fits used new e f l m =
-      record { fits = omega (arith, count-le usedEntry (t .entries), count-le (isNewPath (v .no) (t .entries)) (take (s .count) (s .puts)), length-take (s .count) (s .puts)) }
+pub room-fits : (es : List Entry) (n : VolumeNo) (puts : List Put) (k used new : ℕ) → used ≡ countIf usedEntry es
+    → new ≡ countIf (isNewPath n es) (take k puts) → length es ≡ 64 → length puts ≡ 8 → Fits w64 (used + new)
+room-fits es n puts k used new e f l m =
+    record { fits = omega (arith, count-le usedEntry es, count-le (isNewPath n es) (take k puts), length-take k puts) }
 
-  pub room-passes : (used new : ℕ) → used ≡ countIf usedEntry (t .entries) → new ≡ countIf (isNewPath (v .no) (t .entries)) (take (s .count) (s .puts))
-      → ltb 64 (used + new) ≡ passesRoom t v (staged s)
-  unfolding passesRoom
-  room-passes used new e f = rw (e, f)
+pub room-passes : (es : List Entry) (n : VolumeNo) (ps : List Put) (used new : ℕ) → used ≡ countIf usedEntry es → new ≡ countIf (isNewPath n es) ps
+    → ltb entryRows (used + new) ≡ ltb entryRows (countIf usedEntry es + countIf (isNewPath n es) ps)
+room-passes es n ps used new e f = rw (e, f)
 
 -- the rent of so many raw bytes: f is what was worked out
 module _ (rate : ℕ) (v : Volume) (raw : ℕ) (f : Rent) (e : f ≡ rentWithin rate (v .k) (v .m) raw) (shards : shardsFit (v .k) (v .m) ≡ true)

@@ -10,6 +10,7 @@ use lib.ListN.{length}
 use Rattle.lists.specs.Lists.{allOf}
 use Rattle.lists.specs.BoolLaws.{and-left, and-right, and-both}
 use Rattle.lists.specs.TestLaws.{all-weaker}
+use Rattle.text.specs.Text.{holds, isPath}
 use Rattle.rules.specs.declared.Volume.{Volume}
 use Rattle.rules.specs.declared.Entry.{Entry}
 use Rattle.rules.specs.declared.Token.{Token}
@@ -17,7 +18,7 @@ use Rattle.rules.specs.declared.Relay.{Relay}
 use Rattle.rules.specs.declared.Put.{Put}
 use Rattle.rules.specs.declared.Session.{Session}
 use Rattle.rules.specs.declared.Tables.{Tables}
-use Rattle.rules.specs.Limits.{entryRows, capacityLimit}
+use Rattle.rules.specs.Limits.{entryRows, sizeLimit, capacityLimit}
 use Rattle.rules.specs.Tables.{busy, staged, freeVolume, freeEntry, freeToken, freeRelay}
 use Rattle.rules.specs.Sound.{soundVolume, soundEntry, soundToken, soundRelay, soundPut, soundSession, soundTables}
 use Rattle.rules.specs.Laws.ApartLaws.{not-free-used, other-part, either-part}
@@ -53,7 +54,7 @@ module _ (t : Tables) where
 
 put-in : (p : Put) → soundPut p ≡ true → putWithin p ≡ true
 unfolding soundPut putWithin
-put-in p e = and-right _ _ e
+put-in p e = and-right (holds isPath (p .path)) (leb (p .size) sizeLimit) e
 
 -- of tables that are sound, and a session of them that is running
 pub sound-within : (t : Tables) (s : Session) → length (t .entries) ≡ entryRows → soundTables t ≡ true → soundSession t s ≡ true → busy s ≡ true → within t s ≡ true

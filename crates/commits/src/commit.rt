@@ -128,7 +128,10 @@ fn commit_room(
     requires { ⌜ Charges t s i v k (take (f .len) (f .tokens)) (f .len) bytes × (kept ≡ keptBytes (v .no) (staged s) (t .entries)) × (kept ≤ 64 * 2 ^ 36) ⌝ }
     ensures { λ r. ⌜ onCommit t r ≡ commitRoom t s i v k ⌝ }
 {
-    if passes_room(t, v, s) {
+    let entries = t.entries;
+    let n = v.no;
+    let puts = s.puts;
+    if passes_room(entries, n, puts, s.count) {
         return refuse(t, s, ROOM);
     }
     if below_rent(t.rate, v, kept + bytes) {

@@ -5,11 +5,12 @@ ghost use mathlib.Core.List.{[], _∷_};
 ghost use Prim.Native.Nat.{_+_, _*_, _≤_, _^_};
 ghost use lib.Dec.{ltb};
 ghost use lib.ListN.{take};
-ghost use Rattle.lists.specs.Lists.{allOf};
-ghost use Rattle.rules.specs.Tables.{staged};
+ghost use Rattle.lists.specs.Lists.{allOf, countIf};
+ghost use Rattle.rules.specs.Limits.{entryRows};
+ghost use Rattle.rules.specs.Tables.{usedEntry};
 ghost use Rattle.rules.specs.Rent.{rentFor};
 ghost use Rattle.rules.specs.Sound.{shardsFit};
-ghost use Rattle.rules.specs.Commit.{stagedBytes, isKept, passesRoom};
+ghost use Rattle.rules.specs.Commit.{stagedBytes, isKept, isNewPath};
 ghost use Rattle.commits.specs.Within.{entryWithin, putWithin};
 ghost use Rattle.commits.specs.Stored.{keptBytes};
 use entries::count_new;
@@ -20,8 +21,6 @@ use rents::rent_of;
 use rows::is_number;
 use rules::Entry;
 use rules::Put;
-use rules::Session;
-use rules::Tables;
 use rules::Volume;
 use rules::VolumeNo;
 
@@ -68,14 +67,11 @@ pub(crate) fn kept_bytes(entries: [Entry; 64], n: VolumeNo, puts: [Put; 8], coun
 }
 
 // Whether there would be a 65th entry.
-pub(crate) fn passes_room(t: Tables, v: Volume, s: Session) -> bool
-    ensures { λ r. ⌜ r ≡ passesRoom t v (staged s) ⌝ }
+pub(crate) fn passes_room(entries: [Entry; 64], n: VolumeNo, puts: [Put; 8], count: usize) -> bool
+    ensures { λ r. ⌜ r ≡ ltb entryRows (countIf usedEntry entries + countIf (isNewPath n entries) (take count puts)) ⌝ }
 {
-    let entries = t.entries;
-    let n = v.no;
-    let puts = s.puts;
     let used = count_used(entries);
-    let new = count_new(entries, n, puts, s.count);
+    let new = count_new(entries, n, puts, count);
     64 < used + new
 }
 
