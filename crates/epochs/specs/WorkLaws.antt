@@ -1,13 +1,13 @@
 -- Laws of advanceWork: on sound tables every volume can be settled in the machine's numbers, so that an advance is the rule's. Assumes nothing.
-use mathlib.Core.Path.{_≡_, refl, sym, _∙_}
-use mathlib.Core.Bool.{Bool, true, false, cond, _&&_, _||_, not}
+use mathlib.Core.Path.{_≡_}
+use mathlib.Core.Bool.{true, false, not}
 use mathlib.Core.Logic.{⊎-elim}
 use Prim.Native.Nat.{ℕ, _≤_}
 use native.Mathlib.Omega.{arith}
 use borrow.Author.Tests.{eqb-true, leb-true, lt-ltb}
-use lib.Dec.{leb, ltb}
+use lib.Dec.{leb}
 use lib.ListN.{length, getD}
-use Rattle.lists.specs.BoolLaws.{and-left, and-right, and-both, pass-or-fail}
+use Rattle.lists.specs.BoolLaws.{and-left, and-right, pass-or-fail}
 use Rattle.lists.specs.TestLaws.{all-at, at-all}
 use Rattle.rules.specs.declared.Status.{Status}
 use Rattle.rules.specs.declared.Status.the-variants.{Active, Grace, Deleted}

@@ -1,6 +1,6 @@
 // The work of advance: the clock goes on, relays leave, rents are paid at an epoch end, and volumes are collected. It reads the
-// tables and gives back the parts that it changes, with its answer: specs/Parts.antt says what that makes of the whole. Every
-// function here answers for every input, but for the few that say what they require.
+// tables and gives back the parts that it changes, with its answer: specs/Parts.antt says what that makes of the whole. It answers
+// for every input.
 mod advance;
 mod clock;
 mod collect;
@@ -27,13 +27,13 @@ pub struct AdvanceOutcome {
 }
 
 // A volume after an epoch end, or as it was where the machine's numbers cannot settle it.
-pub struct SettledRow {
+pub(crate) struct SettledRow {
     pub fits: bool,
     pub row: Volume,
 }
 
 // The volumes after an epoch end, or as they were where the machine's numbers cannot settle one of them.
-pub struct Settled {
+pub(crate) struct Settled {
     pub fits: bool,
     pub rows: [Volume; 8],
 }

@@ -18,10 +18,16 @@ fn settle_row(t: Tables, v: Volume) -> SettledRow
         return SettledRow { fits: true, row: v };
     }
     let Rent::Coins(rent) = volume_rent(t, v) else {
-        return SettledRow { fits: false, row: v };
+        return SettledRow {
+            fits: false,
+            row: v,
+        };
     };
     if 255 <= v.grace {
-        return SettledRow { fits: false, row: v };
+        return SettledRow {
+            fits: false,
+            row: v,
+        };
     }
     let row = after_rent(rent, v);
     SettledRow { fits: true, row }

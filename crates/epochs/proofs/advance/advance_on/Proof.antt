@@ -9,12 +9,12 @@ advance-on-spec =
     (tie.spec
     (λ c κs. search advances)
     (λ c κs. search advances)
-    (λ c. search advances)
+    (λ c. search advances)  -- CLOCK
     (λ c κs. search advances)
     (λ c κs. search advances)
-    (λ c. search advances)
+    (λ c. search advances)  -- no epoch ends
     (λ c κs. search advances)
     (λ c κs. search advances)
-    (λ c. search advances)
+    (λ c. search advances)  -- BAD
     (λ c κs. search advances)
-    (λ c. search advances))
+    (λ c. search advances))  -- the volumes are settled
