@@ -5,12 +5,16 @@ ghost use lib.ListN.{getD};
 ghost use Rattle.rules.specs.Fresh.{freshSession};
 ghost use Rattle.rules.specs.Outcome.{deskRefused, onTables};
 ghost use Rattle.rules.specs.Calls.{withSlot};
+ghost use Rattle.commits.specs.Parts.{onCommit};
 ghost use Rattle.entries.specs.Parts.{onRemove};
+ghost use Rattle.epochs.specs.Parts.{onAdvance};
 ghost use Rattle.relays.specs.Parts.{onRelays};
 ghost use Rattle.volumes.specs.Parts.{onVolumes, onDelete};
 ghost use Rattle.tokens.specs.Parts.{onTokens, unchanged};
 ghost use Rattle.sessions.specs.Parts.{onSession};
+use commits::CommitOutcome;
 use entries::RemoveOutcome;
+use epochs::AdvanceOutcome;
 use relays::RelaysOutcome;
 use rules::Answer;
 use rules::Desk;
@@ -97,6 +101,26 @@ pub(crate) fn with_remove(d: Desk, o: RemoveOutcome) -> Outcome
     Outcome { answer, desk }
 }
 
+// Of advance.
+pub(crate) fn with_advance(d: Desk, o: AdvanceOutcome) -> Outcome
+    ensures { λ r. ⌜ r ≡ onTables d (onAdvance (d .tables) o) ⌝ }
+{
+    let answer = o.answer;
+    let volumes = o.volumes;
+    let entries = o.entries;
+    let tokens = o.tokens;
+    let relays = o.relays;
+    let mut tables = d.tables;
+    tables.clock = o.clock;
+    tables.volumes = volumes;
+    tables.entries = entries;
+    tables.tokens = tokens;
+    tables.relays = relays;
+    let sessions = d.sessions;
+    let desk = Desk { tables, sessions };
+    Outcome { answer, desk }
+}
+
 // Of grant, attenuate and revoke.
 pub(crate) fn with_tokens(d: Desk, o: TokensOutcome) -> Outcome
     ensures { λ r. ⌜ r ≡ onTables d (onTokens (d .tables) o) ⌝ }
@@ -130,6 +154,28 @@ pub(crate) fn with_session(d: Desk, slot: usize, o: SessionOutcome) -> Outcome
     let mut sessions = d.sessions;
     sessions[slot] = session;
     let tables = d.tables;
+    let desk = Desk { tables, sessions };
+    Outcome { answer, desk }
+}
+
+// Of commit: the tables and the slot.
+pub(crate) fn with_commit(d: Desk, slot: usize, o: CommitOutcome) -> Outcome
+    requires { ⌜ slot < 4 ⌝ }
+    ensures { λ r. ⌜ r ≡ withSlot d slot (onCommit (d .tables) o) ⌝ }
+{
+    let answer = o.answer;
+    let volumes = o.volumes;
+    let entries = o.entries;
+    let tokens = o.tokens;
+    let relays = o.relays;
+    let mut tables = d.tables;
+    tables.volumes = volumes;
+    tables.entries = entries;
+    tables.tokens = tokens;
+    tables.relays = relays;
+    let session = o.session;
+    let mut sessions = d.sessions;
+    sessions[slot] = session;
     let desk = Desk { tables, sessions };
     Outcome { answer, desk }
 }
