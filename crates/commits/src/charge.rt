@@ -20,13 +20,13 @@ fn is_member(f: Family, n: TokenNo) -> bool
 {
     let tokens = f.tokens;
     let count = f.len;
-    let mut i: usize = 0;
-    while i < count {
-        let k = tokens[i];
+    let mut j: usize = 0;
+    while j < count {
+        let k = tokens[j];
         if is_number(n.0, k.no.0) {
             return true;
         }
-        i += 1;
+        j += 1;
     }
     false
 }

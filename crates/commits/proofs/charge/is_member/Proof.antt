@@ -11,8 +11,8 @@ pub is-member-spec : {M : Type 1} → statement M
 is-member-spec =
     tie.close
     (tie.spec
-    (λ n tokens count i₀ i. AnyLoop (isToken n) (take count tokens) 0 count i)
-    (λ n tokens count i₀ i. count - i)
+    (λ n tokens count j₀ j. AnyLoop (isToken n) (take count tokens) 0 count j)
+    (λ n tokens count j₀ j. count - j)
     (λ c. search anys-first)
     (λ c. search anys-first)
     (λ c. search anys-first)
