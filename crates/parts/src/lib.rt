@@ -1,7 +1,6 @@
-// The part of the desk that a call leaves, put back into the whole.
+// The part of the desk that a call leaves, put back into the whole. Every function answers for every input.
 ghost use mathlib.Core.Path.{_≡_};
-ghost use Prim.Native.Nat.{_<_};
-ghost use lib.ListN.{getD};
+ghost use lib.ListN.{getD, set};
 ghost use Rattle.rules.specs.Fresh.{freshSession};
 ghost use Rattle.rules.specs.Outcome.{deskRefused, onTables};
 ghost use Rattle.rules.specs.Calls.{withSlot};
@@ -20,13 +19,14 @@ use rules::Answer;
 use rules::Desk;
 use rules::Outcome;
 use rules::Session;
+use rules::fresh_session;
 use sessions::SessionOutcome;
 use tokens::TokensOutcome;
 use volumes::DeleteOutcome;
 use volumes::VolumesOutcome;
 
 // A refusal gives the desk back as it came.
-pub(crate) fn refuse(d: Desk, n: u32) -> Outcome
+pub fn refuse(d: Desk, n: u32) -> Outcome
     ensures { λ r. ⌜ r ≡ deskRefused d n ⌝ }
 {
     let answer = rules::refusal(n);
@@ -34,14 +34,14 @@ pub(crate) fn refuse(d: Desk, n: u32) -> Outcome
 }
 
 // Of a call that changes nothing.
-pub(crate) fn answered(d: Desk, a: Answer) -> Outcome
+pub fn answered(d: Desk, a: Answer) -> Outcome
     ensures { λ r. ⌜ r ≡ onTables d (unchanged (d .tables) a) ⌝ }
 {
     Outcome { answer: a, desk: d }
 }
 
 // Of a call on the relays.
-pub(crate) fn with_relays(d: Desk, o: RelaysOutcome) -> Outcome
+pub fn with_relays(d: Desk, o: RelaysOutcome) -> Outcome
     ensures { λ r. ⌜ r ≡ onTables d (onRelays (d .tables) o) ⌝ }
 {
     let answer = o.answer;
@@ -55,7 +55,7 @@ pub(crate) fn with_relays(d: Desk, o: RelaysOutcome) -> Outcome
 }
 
 // Of create, deposit and undelete.
-pub(crate) fn with_volumes(d: Desk, o: VolumesOutcome) -> Outcome
+pub fn with_volumes(d: Desk, o: VolumesOutcome) -> Outcome
     ensures { λ r. ⌜ r ≡ onTables d (onVolumes (d .tables) o) ⌝ }
 {
     let answer = o.answer;
@@ -70,7 +70,7 @@ pub(crate) fn with_volumes(d: Desk, o: VolumesOutcome) -> Outcome
 }
 
 // Of delete.
-pub(crate) fn with_delete(d: Desk, o: DeleteOutcome) -> Outcome
+pub fn with_delete(d: Desk, o: DeleteOutcome) -> Outcome
     ensures { λ r. ⌜ r ≡ onTables d (onDelete (d .tables) o) ⌝ }
 {
     let answer = o.answer;
@@ -85,7 +85,7 @@ pub(crate) fn with_delete(d: Desk, o: DeleteOutcome) -> Outcome
 }
 
 // Of remove.
-pub(crate) fn with_remove(d: Desk, o: RemoveOutcome) -> Outcome
+pub fn with_remove(d: Desk, o: RemoveOutcome) -> Outcome
     ensures { λ r. ⌜ r ≡ onTables d (onRemove (d .tables) o) ⌝ }
 {
     let answer = o.answer;
@@ -102,7 +102,7 @@ pub(crate) fn with_remove(d: Desk, o: RemoveOutcome) -> Outcome
 }
 
 // Of advance.
-pub(crate) fn with_advance(d: Desk, o: AdvanceOutcome) -> Outcome
+pub fn with_advance(d: Desk, o: AdvanceOutcome) -> Outcome
     ensures { λ r. ⌜ r ≡ onTables d (onAdvance (d .tables) o) ⌝ }
 {
     let answer = o.answer;
@@ -122,7 +122,7 @@ pub(crate) fn with_advance(d: Desk, o: AdvanceOutcome) -> Outcome
 }
 
 // Of grant, attenuate and revoke.
-pub(crate) fn with_tokens(d: Desk, o: TokensOutcome) -> Outcome
+pub fn with_tokens(d: Desk, o: TokensOutcome) -> Outcome
     ensures { λ r. ⌜ r ≡ onTables d (onTokens (d .tables) o) ⌝ }
 {
     let answer = o.answer;
@@ -135,32 +135,44 @@ pub(crate) fn with_tokens(d: Desk, o: TokensOutcome) -> Outcome
     Outcome { answer, desk }
 }
 
-// The session of a slot.
-pub(crate) fn slot_of(d: Desk, slot: usize) -> Session
-    requires { ⌜ slot < 4 ⌝ }
+// The session of a slot; an idle one where there is no such slot.
+pub fn slot_of(d: Desk, slot: usize) -> Session
     ensures { λ s. ⌜ s ≡ getD (d .sessions) slot freshSession ⌝ }
 {
+    if 4 <= slot {
+        return fresh_session();
+    }
     let sessions = d.sessions;
     sessions[slot]
 }
 
+// The slots with one of them replaced; as they are where there is no such slot.
+fn with_slot(slots: [Session; 4], slot: usize, s: Session) -> [Session; 4]
+    ensures { λ r. ⌜ r ≡ set slots slot s ⌝ }
+{
+    if 4 <= slot {
+        return slots;
+    }
+    let mut next = slots;
+    next[slot] = s;
+    next
+}
+
 // Of open, stage and abandon: the slot.
-pub(crate) fn with_session(d: Desk, slot: usize, o: SessionOutcome) -> Outcome
-    requires { ⌜ slot < 4 ⌝ }
+pub fn with_session(d: Desk, slot: usize, o: SessionOutcome) -> Outcome
     ensures { λ r. ⌜ r ≡ withSlot d slot (onSession (d .tables) o) ⌝ }
 {
     let answer = o.answer;
     let session = o.session;
-    let mut sessions = d.sessions;
-    sessions[slot] = session;
+    let slots = d.sessions;
+    let sessions = with_slot(slots, slot, session);
     let tables = d.tables;
     let desk = Desk { tables, sessions };
     Outcome { answer, desk }
 }
 
 // Of commit: the tables and the slot.
-pub(crate) fn with_commit(d: Desk, slot: usize, o: CommitOutcome) -> Outcome
-    requires { ⌜ slot < 4 ⌝ }
+pub fn with_commit(d: Desk, slot: usize, o: CommitOutcome) -> Outcome
     ensures { λ r. ⌜ r ≡ withSlot d slot (onCommit (d .tables) o) ⌝ }
 {
     let answer = o.answer;
@@ -174,8 +186,8 @@ pub(crate) fn with_commit(d: Desk, slot: usize, o: CommitOutcome) -> Outcome
     tables.tokens = tokens;
     tables.relays = relays;
     let session = o.session;
-    let mut sessions = d.sessions;
-    sessions[slot] = session;
+    let slots = d.sessions;
+    let sessions = with_slot(slots, slot, session);
     let desk = Desk { tables, sessions };
     Outcome { answer, desk }
 }
