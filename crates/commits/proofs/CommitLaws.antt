@@ -39,7 +39,7 @@ use Rattle.rules.specs.Commit.{Placed, stagedBytes, isReplaced, storeAll, charg
 use Rattle.rows.specs.Blank.{blankVolume, blankToken}
 use Rattle.entries.specs.Marks.{marked}
 use Rattle.entries.specs.MarkLaws.{marked-keep}
-use Rattle.commits.specs.Within.{volumeWithin, entryWithin, tokenWithin, relayWithin, putWithin, sessionWithin, within}
+use Rattle.commits.specs.Within.{volumeWithin, entryWithin, tokenWithin, relayWithin, putWithin, sessionWithin, inLimits}
 use Rattle.commits.specs.Stored.{placedBy, storedFor}
 
 module _ (t : Tables) (s : Session) where
@@ -56,16 +56,16 @@ module _ (t : Tables) (s : Session) where
   token-at i v n = at-row (commitToken t s i v) _ _ _
 
 -- the limits, part by part
-module _ (t : Tables) (s : Session) (e : within t s ≡ true) where
+module _ (t : Tables) (s : Session) (e : inLimits t s ≡ true) where
   abbrev three : Bool
   three = sessionWithin s && allOf volumeWithin (t .volumes) && allOf entryWithin (t .entries)
 
   pub relays-within : allOf relayWithin (t .relays) ≡ true
-  unfolding within
+  unfolding inLimits
   relays-within = and-right (three && allOf tokenWithin (t .tokens)) (allOf relayWithin (t .relays)) e
 
   four : (three && allOf tokenWithin (t .tokens)) ≡ true
-  unfolding within
+  unfolding inLimits
   four = and-left (three && allOf tokenWithin (t .tokens)) (allOf relayWithin (t .relays)) e
 
   pub tokens-within : allOf tokenWithin (t .tokens) ≡ true
@@ -102,7 +102,7 @@ shards-within vs n f i q w e =
     other-part (freeVolume v) (shardsFit (v .k) (v .m)) (used-not-free (v .no .0) u) (all-at volumeWithin vs e i (found-below (isVolume n) vs i v r) blankVolume)
 
 -- where r said that the tables and the session are within the limits
-pub shards-told : (t : Tables) (s : Session) (r : Bool) (n : VolumeNo) (f : Found) (i : ℕ) → r ≡ within t s → not r ≡ false
+pub shards-told : (t : Tables) (s : Session) (r : Bool) (n : VolumeNo) (f : Found) (i : ℕ) → r ≡ inLimits t s → not r ≡ false
     → f ≡ firstAt (isVolume n) 0 (t .volumes) → f ≡ At i
     → shardsFit (getD (t .volumes) i blankVolume .k) (getD (t .volumes) i blankVolume .m) ≡ true
 shards-told t s r n f i e g q w = shards-within (t .volumes) n f i q w (volumes-within t s (sym e ∙ not-false r g))

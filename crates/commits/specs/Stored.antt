@@ -24,9 +24,9 @@ use Rattle.rules.specs.Relays.{lightened}
 use Rattle.rules.specs.Rent.{sizeOf}
 use Rattle.rules.specs.Outcome.{slotRefused}
 use Rattle.rules.specs.Commit.{Placed, noPlace, placed, isReplaced, isKept, storeAll, charged, stagedBytes, passesRoom, belowRent, placeAll, commitPlaced}
-use Rattle.commits.specs.Within.{within}
+use Rattle.commits.specs.Within.{inLimits}
 
--- what placing the puts came to: the placements, one for each put, and the relays that took them
+-- what placing the puts came to: the placements, one for each put, and the relay table after them
 abbrev pub placedBy : Bool → List Placement → List Relay → Placed
 placedBy b places rs = cond b (placed places rs) noPlace
 
@@ -53,7 +53,7 @@ keptBytes n ps es = total (map sizeOf (keep (isKept n ps) es))
 -- what is known where the bytes are to be charged: the tables and the session are within the limits, `ks` are the token and its ancestors, `len` of
 -- them, and `bytes` are the staged sizes
 pub record Charges (t : Tables) (s : Session) (i : ℕ) (v : Volume) (k : Token) (ks : List Token) (len bytes : ℕ) : Type 0 where
-  pub limits : within t s ≡ true
+  pub limits : inLimits t s ≡ true
   pub shards : shardsFit (v .k) (v .m) ≡ true
   pub row : i < volumeRows
   pub more : v .version < lastVersion

@@ -1,6 +1,6 @@
--- The limits of document 01 that a commit's sums rest on. On tables and a session within them every sum fits the machine's numbers; on others the
--- work of a commit answers 1, as 01 has it of "a desk .. that breaks a limit of this paper". A sound desk is within them (WithinLaws).
--- Assumes nothing.
+-- The limits of document 01 that a commit's sums rest on. On tables and a running session within them every sum fits the machine's numbers; past
+-- them the work of a commit answers 1, as 01 has it of "a desk .. that breaks a limit of this paper". A sound desk whose entry table has its 64
+-- rows is within them (WithinLaws). Assumes nothing.
 use mathlib.Core.Bool.{Bool, _&&_, _||_, cond, not}
 use Prim.Native.Nat.{ℕ}
 use lib.Dec.{leb}
@@ -35,7 +35,7 @@ putWithin p = leb (p .size) sizeLimit
 unfoldable pub tokenWithin : Token → Bool
 tokenWithin k = freeToken k || leb (k .used) usedLimit
 
--- "capacity at most 2^42, used bytes, shards held": no more shards than there are entries
+-- used bytes up to the largest capacity, 2^42, and no more shards held than there are entries
 unfoldable pub relayWithin : Relay → Bool
 relayWithin r = freeRelay r || (leb (r .used) capacityLimit && leb (r .held) entryRows)
 
@@ -43,13 +43,13 @@ relayWithin r = freeRelay r || (leb (r .used) capacityLimit && leb (r .held) ent
 unfoldable pub sessionWithin : Session → Bool
 sessionWithin s = leb (s .count) putRows && allOf putWithin (staged s)
 
-unfoldable pub within : Tables → Session → Bool
-within t s =
+unfoldable pub inLimits : Tables → Session → Bool
+inLimits t s =
     sessionWithin s && allOf volumeWithin (t .volumes) && allOf entryWithin (t .entries) && allOf tokenWithin (t .tokens)
     && allOf relayWithin (t .relays)
 
--- the work of a commit on any tables and any session: 1 past the limits, and within them the rule
-unfoldable pub commitWork : Tables → Session → SlotOutcome
-commitWork t s =
+-- the work of a commit on any tables and any session: 19 for an idle one, then 1 past the limits, and within them the rule
+unfoldable pub commitWithin : Tables → Session → SlotOutcome
+commitWithin t s =
     cond (not (busy s)) (slotRefused t s SESSION)
-    (cond (not (within t s)) (slotRefused t s BAD) (commitVolume t s (volumeOf (s .volume) t)))
+    (cond (not (inLimits t s)) (slotRefused t s BAD) (commitVolume t s (volumeOf (s .volume) t)))

@@ -26,7 +26,7 @@ use Rattle.rules.specs.Laws.RowFacts.{volume-facts, entry-facts, token-facts, r
 use Rattle.rules.specs.Laws.SoundParts.{parts-of}
 use Rattle.rules.specs.Commit.{commitRule}
 use Rattle.placing.specs.PutLaws.{fewHeld, sound-few}
-use Rattle.commits.specs.Within.{volumeWithin, entryWithin, tokenWithin, relayWithin, putWithin, sessionWithin, within, commitWork}
+use Rattle.commits.specs.Within.{volumeWithin, entryWithin, tokenWithin, relayWithin, putWithin, sessionWithin, inLimits, commitWithin}
 
 module _ (t : Tables) where
   volume-in : (v : Volume) → soundVolume t v ≡ true → volumeWithin v ≡ true
@@ -57,9 +57,9 @@ unfolding soundPut putWithin
 put-in p e = and-right (holds isPath (p .path)) (leb (p .size) sizeLimit) e
 
 -- of tables that are sound, and a session of them that is running
-pub sound-within : (t : Tables) (s : Session) → length (t .entries) ≡ entryRows → soundTables t ≡ true → soundSession t s ≡ true → busy s ≡ true → within t s ≡ true
-unfolding within sessionWithin
-sound-within t s l e f b =
+pub sound-in-limits : (t : Tables) (s : Session) → length (t .entries) ≡ entryRows → soundTables t ≡ true → soundSession t s ≡ true → busy s ≡ true → inLimits t s ≡ true
+unfolding inLimits sessionWithin
+sound-in-limits t s l e f b =
     let p = parts-of t e in
     let q = session-facts t s b f in
     and-both
@@ -72,10 +72,10 @@ sound-within t s l e f b =
     (all-weaker (soundRelay t) relayWithin (t .relays) (relay-in t l) (p .relays))
 
 -- so there the work is the rule
-pub commit-sound : (t : Tables) (s : Session) → length (t .entries) ≡ entryRows → soundTables t ≡ true → soundSession t s ≡ true → commitWork t s ≡ commitRule t s
-unfolding commitWork commitRule
+pub commit-sound : (t : Tables) (s : Session) → length (t .entries) ≡ entryRows → soundTables t ≡ true → soundSession t s ≡ true → commitWithin t s ≡ commitRule t s
+unfolding commitWithin commitRule
 commit-sound t s l e f = go (busy s) refl
   where
-    go : (b : Bool) → busy s ≡ b → commitWork t s ≡ commitRule t s
+    go : (b : Bool) → busy s ≡ b → commitWithin t s ≡ commitRule t s
     go false q = rw q
-    go true q = rw (q, sound-within t s l e f q)
+    go true q = rw (q, sound-in-limits t s l e f q)

@@ -11,7 +11,7 @@ ghost use Rattle.rules.specs.Sound.{shardsFit};
 ghost use Rattle.rules.specs.Outcome.{slotAccepted};
 ghost use Rattle.rules.specs.Commit.{placeAll, commitPlaced, commitLimits, commitToken, commitVolume};
 ghost use Rattle.commits.specs.Parts.{onCommit};
-ghost use Rattle.commits.specs.Within.{within, commitWork};
+ghost use Rattle.commits.specs.Within.{inLimits, commitWithin};
 ghost use Rattle.commits.specs.Stored.{Charges, storedFor, keptBytes, commitRoom};
 use super::CommitOutcome;
 use super::answers::accept;
@@ -27,7 +27,7 @@ use super::sizes::below_rent;
 use super::sizes::kept_bytes;
 use super::sizes::passes_room;
 use super::sizes::staged_bytes;
-use super::within::within;
+use super::within::in_limits;
 use entries::give_back;
 use entries::mark_replaced;
 use entries::store_all;
@@ -72,7 +72,7 @@ fn store(
     bytes: u64,
     p: Places,
 ) -> CommitOutcome
-    requires { ⌜ (within t s ≡ true) × (i < 8) × (v .version < lastVersion) × (f .len ≤ 8) × (bytes ≤ 2 ^ 40) ⌝ }
+    requires { ⌜ (inLimits t s ≡ true) × (i < 8) × (v .version < lastVersion) × (f .len ≤ 8) × (bytes ≤ 2 ^ 40) ⌝ }
     ensures { λ r. ⌜ onCommit t r ≡ slotAccepted (v .version + 1) (storedFor t i v (take (f .len) (f .tokens)) bytes (staged s) (take (s .count) (p .places)) (p .rows)) freshSession ⌝ }
 {
     let version = v.version + 1;
@@ -142,7 +142,7 @@ fn commit_room(
 
 // The quotas of the token and its ancestors, and the volume's cap.
 fn commit_limits(t: Tables, s: Session, i: usize, v: Volume, k: Token) -> CommitOutcome
-    requires { ⌜ (within t s ≡ true) × (shardsFit (v .k) (v .m) ≡ true) × (i < 8) × (v .version < lastVersion) ⌝ }
+    requires { ⌜ (inLimits t s ≡ true) × (shardsFit (v .k) (v .m) ≡ true) × (i < 8) × (v .version < lastVersion) ⌝ }
     ensures { λ r. ⌜ onCommit t r ≡ commitLimits t s i v k ⌝ }
 {
     let puts = s.puts;
@@ -164,7 +164,7 @@ fn commit_limits(t: Tables, s: Session, i: usize, v: Volume, k: Token) -> Commit
 
 // From the token's row on.
 fn commit_token(t: Tables, s: Session, i: usize, v: Volume, k: Token) -> CommitOutcome
-    requires { ⌜ (within t s ≡ true) × (shardsFit (v .k) (v .m) ≡ true) × (i < 8) ⌝ }
+    requires { ⌜ (inLimits t s ≡ true) × (shardsFit (v .k) (v .m) ≡ true) × (i < 8) ⌝ }
     ensures { λ r. ⌜ onCommit t r ≡ commitToken t s i v (hit 0 k) ⌝ }
 {
     let scope = k.scope;
@@ -186,7 +186,7 @@ fn commit_token(t: Tables, s: Session, i: usize, v: Volume, k: Token) -> CommitO
 
 // From the volume's row on.
 fn commit_volume(t: Tables, s: Session, i: usize, v: Volume) -> CommitOutcome
-    requires { ⌜ (within t s ≡ true) × (shardsFit (v .k) (v .m) ≡ true) × (i < 8) ⌝ }
+    requires { ⌜ (inLimits t s ≡ true) × (shardsFit (v .k) (v .m) ≡ true) × (i < 8) ⌝ }
     ensures { λ r. ⌜ onCommit t r ≡ commitVolume t s (hit i v) ⌝ }
 {
     let rows = t.tokens;
@@ -200,12 +200,12 @@ fn commit_volume(t: Tables, s: Session, i: usize, v: Volume) -> CommitOutcome
 
 // The session's puts are stored.
 pub fn commit_on(t: Tables, s: Session) -> CommitOutcome
-    ensures { λ r. ⌜ onCommit t r ≡ commitWork t s ⌝ }
+    ensures { λ r. ⌜ onCommit t r ≡ commitWithin t s ⌝ }
 {
     if s.token.0 == 0 {
         return refuse(t, s, SESSION);
     }
-    if !within(t, s) {
+    if !in_limits(t, s) {
         return refuse(t, s, BAD);
     }
     let rows = t.volumes;

@@ -1,5 +1,5 @@
 // The work of commit: a session's staged puts are stored. It reads the tables and the session, and gives back what it changes.
-// It answers for every input: past the limits that its sums rest on it answers 1.
+// It answers for every input: a running session past the limits that its sums rest on is answered 1.
 mod answers;
 mod charge;
 mod commit;

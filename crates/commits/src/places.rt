@@ -14,7 +14,7 @@ use rules::Put;
 use rules::Relay;
 use rules::fresh_placement;
 
-// A placement for each put, and the relays that took them; or that some put finds too few relays.
+// A placement for each put, and the relay table after them; or that some put finds too few relays.
 pub(crate) struct Places {
     pub placed: bool,
     pub places: [Placement; 8],

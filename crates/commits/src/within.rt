@@ -3,7 +3,7 @@ ghost use mathlib.Core.Path.{_≡_};
 ghost use Prim.Native.Nat.{_≤_};
 ghost use lib.ListN.{take};
 ghost use Rattle.lists.specs.Lists.{allOf};
-ghost use Rattle.commits.specs.Within.{volumeWithin, entryWithin, tokenWithin, relayWithin, putWithin, sessionWithin, within};
+ghost use Rattle.commits.specs.Within.{volumeWithin, entryWithin, tokenWithin, relayWithin, putWithin, sessionWithin, inLimits};
 use rows::shards_fit;
 use rules::Entry;
 use rules::Put;
@@ -141,8 +141,8 @@ fn session_within(s: Session) -> bool
 }
 
 // Whether the tables and the session are within the limits.
-pub(crate) fn within(t: Tables, s: Session) -> bool
-    ensures { λ r. ⌜ r ≡ within t s ⌝ }
+pub(crate) fn in_limits(t: Tables, s: Session) -> bool
+    ensures { λ r. ⌜ r ≡ inLimits t s ⌝ }
 {
     if !session_within(s) {
         return false;

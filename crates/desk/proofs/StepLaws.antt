@@ -24,10 +24,10 @@ use Rattle.rules.specs.Commit.{commitRule}
 use Rattle.rules.specs.Laws.RowFacts.{idle-session}
 use Rattle.rules.specs.Laws.SoundParts.{of-parts, tables-sound, slots-sound}
 use Rattle.rules.specs.Calls.{Ask, Work, Call, askRule, workRule, withSlot, rule, step}
-use Rattle.commits.specs.Within.{commitWork}
+use Rattle.commits.specs.Within.{commitWithin}
 use Rattle.commits.specs.WithinLaws.{commit-sound}
-use Rattle.epochs.specs.Work.{advanceWork}
-use Rattle.epochs.specs.WorkLaws.{advance-sound}
+use Rattle.epochs.specs.Within.{advanceWithin}
+use Rattle.epochs.specs.WithinLaws.{advance-sound}
 
 -- a row of a table whose rows all pass, or what stands for a row past its end
 all-getD : {A : Type 0} (p : A → Bool) (l : List A) (i : ℕ) (d : A) → allOf p l ≡ true → p d ≡ true → p (getD l i d) ≡ true
@@ -65,9 +65,9 @@ module _ (d : Desk) {r : Bool} (e : r ≡ sound d) (y : not r ≡ false) where
       (all-getD (soundSession (d .tables)) (d .sessions) slot freshSession (slots-sound d (sym e ∙ not-false r y)) (idle-session (d .tables) freshSession refl))
 
 -- the work of an advance and of a commit, where it is the rule
-pub advances : (t : Tables) (block : ℕ) (o : TablesOutcome) → soundTables t ≡ true → length (t .entries) ≡ entryRows → o ≡ advanceWork block t → o ≡ advanceRule block t
+pub advances : (t : Tables) (block : ℕ) (o : TablesOutcome) → soundTables t ≡ true → length (t .entries) ≡ entryRows → o ≡ advanceWithin block t → o ≡ advanceRule block t
 advances t block o s l e = e ∙ advance-sound t l s block
 
-pub commits : (t : Tables) (w : Session) (o : SlotOutcome) → soundTables t ≡ true → soundSession t w ≡ true → length (t .entries) ≡ entryRows → o ≡ commitWork t w
+pub commits : (t : Tables) (w : Session) (o : SlotOutcome) → soundTables t ≡ true → soundSession t w ≡ true → length (t .entries) ≡ entryRows → o ≡ commitWithin t w
     → o ≡ commitRule t w
 commits t w o s u l e = e ∙ commit-sound t w l s u

@@ -27,8 +27,8 @@ use rules::RelayNo;
 use rules::TokenNo;
 use rules::VolumeNo;
 use rules::numbers::BAD;
-use sound_work::advance_in_order;
-use sound_work::commit_in_order;
+use sound_work::advance_when_sound;
+use sound_work::commit_when_sound;
 use soundness::is_sound;
 
 // The clock goes on to a block: relays leave, rents are paid where an epoch ends, and volumes are collected.
@@ -39,7 +39,7 @@ pub fn advance(d: Desk, block: u64) -> Outcome
         return refuse(d, BAD);
     }
     let t = d.tables;
-    with_advance(d, advance_in_order(t, block))
+    with_advance(d, advance_when_sound(t, block))
 }
 
 // An account makes a volume of k data shards and m parity shards for each object.
@@ -187,7 +187,7 @@ pub fn commit(d: Desk, slot: u8) -> Outcome
     let i = slot as usize;
     let t = d.tables;
     let s = slot_of(d, i);
-    with_commit(d, i, commit_in_order(t, s))
+    with_commit(d, i, commit_when_sound(t, s))
 }
 
 // A session ends with nothing stored.

@@ -11,14 +11,14 @@ use epochs::AdvanceOutcome;
 use rules::Session;
 use rules::Tables;
 
-pub(crate) fn advance_in_order(t: Tables, block: u64) -> AdvanceOutcome
+pub(crate) fn advance_when_sound(t: Tables, block: u64) -> AdvanceOutcome
     requires { ⌜ soundTables t ≡ true ⌝ }
     ensures { λ r. ⌜ onAdvance t r ≡ advanceRule block t ⌝ }
 {
     epochs::advance_on(t, block)
 }
 
-pub(crate) fn commit_in_order(t: Tables, s: Session) -> CommitOutcome
+pub(crate) fn commit_when_sound(t: Tables, s: Session) -> CommitOutcome
     requires { ⌜ (soundTables t ≡ true) × (soundSession t s ≡ true) ⌝ }
     ensures { λ r. ⌜ onCommit t r ≡ commitRule t s ⌝ }
 {

@@ -14,6 +14,6 @@ abbrev pub orFree : List Entry → Found → Found
 orFree es Nothing = firstAt freeEntry 0 es
 orFree es (At i) = At i
 
--- "replacing an entry of equal path in its row"
+-- "replacing an entry of equal path in its row"; else the lowest free row, if there is one
 unfoldable pub rowFor : VolumeNo → Put → List Entry → Found
 rowFor n p es = orFree es (firstAt (isEntry n (textBytes (p .path))) 0 es)

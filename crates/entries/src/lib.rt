@@ -1,5 +1,5 @@
 // The entry table: entries that go out of it, with the room that they give back, the work of remove, and what a commit stores. Each
-// function reads what it needs and gives back what it changes. Every function here answers for every input.
+// function reads what it needs and gives back what it changes. Every public function answers for every input.
 mod marks;
 mod paths;
 mod remove;

@@ -26,7 +26,7 @@ use Rattle.entries.specs.MarkLaws.{marked-keep, cleared-by}
 use Rattle.epochs.specs.declared.Settled.{Settled}
 use Rattle.epochs.specs.Gone.{dueNumber, entryGone, tokenGone}
 use Rattle.epochs.specs.GoneLaws.{marks-gone, tokens-gone, none-due}
-use Rattle.epochs.specs.Work.{canSettleAll, settledRows, canAdvance, advanceWork}
+use Rattle.epochs.specs.Within.{canSettleAll, settledRows, canAdvance, advanceWithin}
 
 -- the volumes vs and the relays rs are those that the collection starts from
 module _ (t : Tables) (block : ℕ) (vs : List Volume) (rs : List Relay) (x : TablesOutcome) where
@@ -59,13 +59,13 @@ module _ (t : Tables) (block : ℕ) (vs : List Volume) (rs : List Relay) (b : Bo
 
 -- an advance: b is what the code said of the block, and n how many epochs end
 module _ (t : Tables) (block : ℕ) (b : Bool) (x : TablesOutcome) (e : b ≡ badBlock (t .clock) block) where
-  pub bad-block-is : b ≡ true → x ≡ refused t CLOCK → x ≡ advanceWork block t
-  unfolding advanceWork
+  pub bad-block-is : b ≡ true → x ≡ refused t CLOCK → x ≡ advanceWithin block t
+  unfolding advanceWithin
   bad-block-is f q = q ∙ sym (rw (sym e ∙ f))
 
   module _ (n : ℕ) (f : b ≡ false) (g : n ≡ epochEnds (t .clock) block) where
-    pub within-epoch : n < 1 → x ≡ accepted block (collect (isDue block) (withVolumes (relaysLeave (withClock t block)) (t .volumes))) → x ≡ advanceWork block t
-    unfolding advanceWork canAdvance advanced atEpoch relaysLeave
+    pub within-epoch : n < 1 → x ≡ accepted block (collect (isDue block) (withVolumes (relaysLeave (withClock t block)) (t .volumes))) → x ≡ advanceWithin block t
+    unfolding advanceWithin canAdvance advanced atEpoch relaysLeave
     within-epoch h q =
         let z : leb 1 (epochEnds (t .clock) block) ≡ false = rw (← g) (lt-leb 1 n h) in
         q ∙ sym (rw (sym e ∙ f, z))
@@ -79,13 +79,13 @@ module _ (t : Tables) (block : ℕ) (b : Bool) (x : TablesOutcome) (e : b ≡ ba
       unfolding settledRows
       fits-all = ap (λ (z : Settled). z .fits) s
 
-      pub not-settled : not (y .fits) ≡ true → x ≡ refused t BAD → x ≡ advanceWork block t
-      unfolding advanceWork canAdvance
+      pub not-settled : not (y .fits) ≡ true → x ≡ refused t BAD → x ≡ advanceWithin block t
+      unfolding advanceWithin canAdvance
       not-settled w q = q ∙ sym (rw (sym e ∙ f, ends, sym fits-all ∙ not-true (y .fits) w))
 
       pub all-settled : not (y .fits) ≡ false
-          → x ≡ accepted block (collect (isDue block) (withVolumes (relaysLeave (withClock t block)) (y .rows))) → x ≡ advanceWork block t
-      unfolding advanceWork canAdvance advanced atEpoch settle settled rentNow relaysLeave settledRows
+          → x ≡ accepted block (collect (isDue block) (withVolumes (relaysLeave (withClock t block)) (y .rows))) → x ≡ advanceWithin block t
+      unfolding advanceWithin canAdvance advanced atEpoch settle settled rentNow relaysLeave settledRows
       all-settled w q =
           let c : canSettleAll t ≡ true = sym fits-all ∙ not-false (y .fits) w in
           q ∙ rw (s, c) (sym (rw (sym e ∙ f, ends)))

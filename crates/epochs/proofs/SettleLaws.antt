@@ -19,7 +19,7 @@ use Rattle.rents.specs.declared.Rent.the-variants.{Coins, PastLimits}
 use Rattle.rents.specs.Within.{volumeRent}
 use Rattle.rents.specs.WithinLaws.{rent-exact}
 use Rattle.epochs.specs.declared.SettledRow.{SettledRow}
-use Rattle.epochs.specs.Work.{mostGrace, canSettle, canSettleAll, settledRow, settledRows}
+use Rattle.epochs.specs.Within.{mostGrace, canSettle, canSettleAll, settledRow, settledRows}
 
 module _ (t : Tables) (v : Volume) where
   pub free-stays : v .no .0 ≡ 0 → record { fits = true; row = v } ≡ settledRow t v

@@ -1,5 +1,5 @@
 pub mod Parts
 pub mod Gone
 pub mod GoneLaws
-pub mod Work
-pub mod WorkLaws
+pub mod Within
+pub mod WithinLaws

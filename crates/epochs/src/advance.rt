@@ -4,7 +4,7 @@ ghost use Rattle.rules.specs.Tables.{withClock, withVolumes, withEntries, withT
 ghost use Rattle.rules.specs.Outcome.{refused, accepted};
 ghost use Rattle.rules.specs.Advance.{isDue, relaysLeave, collect};
 ghost use Rattle.epochs.specs.Parts.{onAdvance};
-ghost use Rattle.epochs.specs.Work.{advanceWork};
+ghost use Rattle.epochs.specs.Within.{advanceWithin};
 use super::AdvanceOutcome;
 use super::clock::bad_block;
 use super::clock::epoch_ends;
@@ -76,7 +76,7 @@ fn go_on(t: Tables, block: u64, volumes: [Volume; 8]) -> AdvanceOutcome
 
 // The clock goes on to a block.
 pub fn advance_on(t: Tables, block: u64) -> AdvanceOutcome
-    ensures { λ r. ⌜ onAdvance t r ≡ advanceWork block t ⌝ }
+    ensures { λ r. ⌜ onAdvance t r ≡ advanceWithin block t ⌝ }
 {
     if bad_block(t.clock, block) {
         return refuse(t, CLOCK);

@@ -3,7 +3,7 @@ ghost use mathlib.Core.Path.{_≡_};
 ghost use Prim.Native.Nat.{_<_, _≤_};
 ghost use Rattle.rules.specs.Tables.{withBalance, withStatus};
 ghost use Rattle.rules.specs.Advance.{afterRent};
-ghost use Rattle.epochs.specs.Work.{mostGrace};
+ghost use Rattle.epochs.specs.Within.{mostGrace};
 use rules::Status;
 use rules::Volume;
 

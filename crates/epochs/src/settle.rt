@@ -1,6 +1,6 @@
 // The volumes pay their rents.
 ghost use mathlib.Core.Path.{_≡_};
-ghost use Rattle.epochs.specs.Work.{settledRow, settledRows};
+ghost use Rattle.epochs.specs.Within.{settledRow, settledRows};
 use super::Settled;
 use super::SettledRow;
 use super::paying::after_rent;

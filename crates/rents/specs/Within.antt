@@ -1,4 +1,4 @@
--- Document 01, "Rent": one epoch's rent, worked out in the machine's numbers. K, M and the raw bytes of sound tables are within these limits, and
+-- Document 01, "Rent": one epoch's rent, worked out in the machine's numbers. K, M and the raw bytes of a volume in use are within these limits on sound tables, and
 -- there it is the rent of the rules (WithinLaws). Assumes nothing.
 use mathlib.Core.Bool.{_&&_, cond}
 use mathlib.Core.List.{List, [], _∷_}
@@ -22,7 +22,7 @@ rawLimit = 2 ^ 43
 abbrev pub mostRaw : ℕ
 mostRaw = 2 ^ 64 - 1
 
--- the most effective bytes of so many raw ones, with K+M up to 24; times any rate they are below 2^64
+-- no fewer than the effective bytes of so many raw ones, with K+M up to 24; times any rate it is below 2^64
 abbrev pub mostEffective : ℕ
 mostEffective = 24 * 2 ^ 43 + 1
 

@@ -1,6 +1,6 @@
 -- `commit::commit_on` meets its contract: check by check, then the row of the volume. Assumes nothing.
 use Rattle.lists.specs.AnswerLaws.{checks, said-yes, in-table}
-use Rattle.commits.specs.Within.{commitWork}
+use Rattle.commits.specs.Within.{commitWithin}
 use Rattle.rules.specs.Commit.{commitVolume}
 use Rattle.rules.specs.Tables.{volumeOf}
 use Rattle.commits.proofs.CommitLaws.{volume-none, volume-at, shards-told}
@@ -9,7 +9,7 @@ use Rattle.commits.proofs.commit.commit_on.Statement.{statement}
 use Rattle.commits.proofs.commit.commit_on.Tie as tie
 
 pub commit-on-spec : {M : Type 1} → statement M
-unfolding commitWork commitVolume volumeOf
+unfolding commitWithin commitVolume volumeOf
 commit-on-spec =
     tie.close
     (tie.spec

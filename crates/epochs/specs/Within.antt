@@ -45,8 +45,8 @@ settledRows t = record { fits = canSettleAll t; rows = cond (canSettleAll t) (ma
 unfoldable pub canAdvance : ℕ → Tables → Bool
 canAdvance block t = not (leb 1 (epochEnds (t .clock) block)) || canSettleAll t
 
--- "01 advance | block | 16 | block"
-unfoldable pub advanceWork : ℕ → Tables → TablesOutcome
-advanceWork block t =
+-- "01 advance | block | 16 | block", and 1 where a volume cannot be settled in the machine's numbers
+unfoldable pub advanceWithin : ℕ → Tables → TablesOutcome
+advanceWithin block t =
     cond (badBlock (t .clock) block) (refused t CLOCK)
     (cond (canAdvance block t) (accepted block (advanced t block)) (refused t BAD))

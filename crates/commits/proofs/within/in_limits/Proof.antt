@@ -1,13 +1,13 @@
--- `within::within` meets its contract: part by part. Assumes nothing.
+-- `within::in_limits` meets its contract: part by part. Assumes nothing.
 use Rattle.lists.specs.AnswerLaws.{refused, passed, all-5, used}
-use Rattle.commits.specs.Within.{within}
+use Rattle.commits.specs.Within.{inLimits}
 use borrow.Author.Needs.{needs}
-use Rattle.commits.proofs.within.within.Statement.{statement}
-use Rattle.commits.proofs.within.within.Tie as tie
+use Rattle.commits.proofs.within.in_limits.Statement.{statement}
+use Rattle.commits.proofs.within.in_limits.Tie as tie
 
-pub within-spec : {M : Type 1} → statement M
-unfolding within
-within-spec =
+pub in-limits-spec : {M : Type 1} → statement M
+unfolding inLimits
+in-limits-spec =
     tie.close
     (tie.spec
     (λ c κs. search needs)

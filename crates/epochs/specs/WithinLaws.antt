@@ -1,4 +1,4 @@
--- Laws of advanceWork: on sound tables every volume can be settled in the machine's numbers, so that an advance is the rule's. Assumes nothing.
+-- Laws of advanceWithin: on sound tables every volume can be settled in the machine's numbers, so that an advance is the rule's. Assumes nothing.
 use mathlib.Core.Path.{_≡_}
 use mathlib.Core.Bool.{true, false, not}
 use mathlib.Core.Logic.{⊎-elim}
@@ -22,7 +22,7 @@ use Rattle.rules.specs.Advance.{advanceRule}
 use Rattle.rules.specs.Laws.RowFacts.{volume-facts, or-last}
 use Rattle.rules.specs.Laws.SoundParts.{parts-of}
 use Rattle.rents.specs.WithinLaws.{rent-sound}
-use Rattle.epochs.specs.Work.{mostGrace, canSettle, canSettleAll, canAdvance, advanceWork}
+use Rattle.epochs.specs.Within.{mostGrace, canSettle, canSettleAll, canAdvance, advanceWithin}
 
 -- a sound grace count has room
 few-grace : (s : Status) (grace : ℕ) → soundGrace s grace ≡ true → grace ≤ 2
@@ -50,6 +50,6 @@ module _ (t : Tables) (rows : length (t .entries) ≡ entryRows) (s : soundTable
       at-all (canSettle t) (t .volumes) freshVolume
       (λ j h. can-settle (getD (t .volumes) j freshVolume) (all-at (soundVolume t) (t .volumes) (parts-of t s .volumes) j h freshVolume))
 
-  pub advance-sound : (block : ℕ) → advanceWork block t ≡ advanceRule block t
-  unfolding advanceWork advanceRule canAdvance
+  pub advance-sound : (block : ℕ) → advanceWithin block t ≡ advanceRule block t
+  unfolding advanceWithin advanceRule canAdvance
   advance-sound block = rw (or-last (not (leb 1 (epochEnds (t .clock) block))) (canSettleAll t) can-settle-all)
