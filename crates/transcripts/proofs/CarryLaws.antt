@@ -1,9 +1,11 @@
 -- The work of a record is the rule of its call: the arm names the call, and its fields are what the record and its bytes hold. Assumes nothing.
 use mathlib.Core.Path.{_≡_, _∙_, ap}
+use mathlib.Core.Bool.{true}
 use mathlib.Core.List.{List}
 use Prim.Native.Nat.{ℕ, _<_, _≤_}
 use borrow.Author.Tests.{le-leb, lt-leb}
 use lib.ListN.{getD, set}
+use Rattle.lists.specs.TestLaws.{all-at}
 use Rattle.rules.specs.declared.Account.{Account}
 use Rattle.rules.specs.declared.Answer.{Answer}
 use Rattle.rules.specs.declared.Hash.{Hash}
@@ -16,14 +18,19 @@ use Rattle.rules.specs.declared.Outcome.{Outcome}
 use Rattle.rules.specs.Limits.{slotRows}
 use Rattle.rules.specs.Numbers.{BAD}
 use Rattle.rules.specs.Fresh.{freshSession}
-use Rattle.rules.specs.Outcome.{refusal, onTables}
+use Rattle.rules.specs.Outcome.{refusal, deskRefused, onTables}
+use Rattle.rules.specs.Sound.{soundTables, soundSession}
+use Rattle.rules.specs.Laws.SoundParts.{of-parts, tables-sound, slots-sound}
+use Rattle.rules.specs.Laws.StaysSound.{DeskInvariant}
 use Rattle.rules.specs.SessionCalls.{openRule, stageRule, abandonRule}
 use Rattle.rules.specs.VolumeCalls.{createRule, depositRule, deleteRule, undeleteRule, removeRule}
 use Rattle.rules.specs.TokenCalls.{grantRule, attenuateRule, revokeRule, lookRule}
 use Rattle.rules.specs.RelayCalls.{registerRule, heartbeatRule}
-use Rattle.rules.specs.Advance.{advanceRule}
-use Rattle.rules.specs.Commit.{commitRule}
 use Rattle.rules.specs.Calls.{askRule, Work, commits, workRule, Call, withSlot, rule}
+use Rattle.epochs.specs.Within.{advanceWithin}
+use Rattle.epochs.specs.WithinLaws.{advance-sound}
+use Rattle.commits.specs.Within.{commitWithin}
+use Rattle.commits.specs.WithinLaws.{commit-sound}
 use Rattle.sessions.specs.declared.SessionOutcome.{SessionOutcome}
 use Rattle.sessions.specs.Parts.{onSession}
 use Rattle.tokens.specs.Parts.{scopeArg}
@@ -112,14 +119,22 @@ module _ (t : Tables) (slots : List Session) (j : ℕ) (w : Work) where
   unfolding rule
   on-slot s o h e f = record { same = rw (lt-leb slotRows j h, ← e, ← f) }
 
--- the calls that change several tables, on a desk: o is the desk with what x left
-module _ (d : Desk) (o : Outcome) (r : Record) (l : List ℕ) (w : WideCall) where
-  pub advanced : (x : TablesOutcome) → w ≡ wide.Advance → x ≡ advanceRule (r .amount) (d .tables) → o ≡ onTables d x → Ruled o (wideCall w r l) d
-  unfolding rule askRule
-  advanced x e f g = record { same = rw (e, ← f) g }
+-- ---- the calls that change several tables, on a desk that calls reach: o is the desk with what x left
 
-  pub committed : w ≡ wide.Commit → o ≡ rule (Call.onSlot (r .slot) commits) d → Ruled o (wideCall w r l) d
-  committed e f = record { same = rw e f }
+tables-in : (d : Desk) → DeskInvariant d → soundTables (d .tables) ≡ true
+tables-in d i = of-parts (d .tables) (tables-sound d (i .passes))
+
+slot-in : (d : Desk) → DeskInvariant d → (j : ℕ) → j < slotRows → soundSession (d .tables) (getD (d .sessions) j freshSession) ≡ true
+slot-in d i j h = all-at (soundSession (d .tables)) (d .sessions) (slots-sound d (i .passes)) j (rw (i .slots) h) freshSession
+
+module _ (d : Desk) (o : Outcome) (r : Record) (l : List ℕ) (w : WideCall) where
+  pub advanced : DeskInvariant d → (x : TablesOutcome) → w ≡ wide.Advance → x ≡ advanceWithin (r .amount) (d .tables) → o ≡ onTables d x
+      → Ruled o (wideCall w r l) d
+  unfolding rule askRule
+  advanced i x e f g = record { same = rw (e, ← advance-sound (d .tables) (i .shape .entry-rows) (tables-in d i) (r .amount), ← f) g }
+
+  pub committed : w ≡ wide.Commit → Ruled o (Call.onSlot (r .slot) commits) d → Ruled o (wideCall w r l) d
+  committed e f = rw e f
 
   module _ (x : TablesOutcome) (a : Account) (ea : a .0 ≡ accountAt r l) where
     pub deleted : w ≡ wide.Delete → x ≡ deleteRule a (record { 0 = r .no }) (d .tables) → o ≡ onTables d x → Ruled o (wideCall w r l) d
@@ -131,13 +146,15 @@ module _ (d : Desk) (o : Outcome) (r : Record) (l : List ℕ) (w : WideCall) whe
     unfolding rule askRule
     removed name e en f g = record { same = rw (e, ← ea, ← en, ← f) g }
 
--- a commit on a slot of the desk
-module _ (d : Desk) (j : ℕ) where
-  pub no-commit : (a : Answer) → 4 ≤ j → a ≡ refusal BAD → record { answer = a; desk = d } ≡ rule (Call.onSlot j commits) d
+-- a commit on a slot
+module _ (d : Desk) (o : Outcome) (j : ℕ) where
+  pub no-commit : 4 ≤ j → o ≡ deskRefused d BAD → Ruled o (Call.onSlot j commits) d
   unfolding rule
-  no-commit a h e = rw (le-leb slotRows j h, e)
+  no-commit h e = record { same = rw (le-leb slotRows j h) e }
 
-  pub commits-on : (s : Session) (x : SlotOutcome) (o : Outcome) → j < 4 → s ≡ getD (d .sessions) j freshSession → x ≡ commitRule (d .tables) s
-      → o ≡ withSlot d j x → o ≡ rule (Call.onSlot j commits) d
+  pub commits-on : DeskInvariant d → (s : Session) (x : SlotOutcome) → j < 4 → s ≡ getD (d .sessions) j freshSession → x ≡ commitWithin (d .tables) s
+      → o ≡ withSlot d j x → Ruled o (Call.onSlot j commits) d
   unfolding rule workRule
-  commits-on s x o h e f g = rw (lt-leb slotRows j h, ← e, ← f) g
+  commits-on i s x h e f g =
+      let q = commit-sound (d .tables) (getD (d .sessions) j freshSession) (i .shape .entry-rows) (tables-in d i) (slot-in d i j h) in
+      record { same = rw (lt-leb slotRows j h, ← q, ← e, ← f) g }

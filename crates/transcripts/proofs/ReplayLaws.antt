@@ -16,7 +16,6 @@ use Rattle.rules.specs.declared.Answer.{Answer}
 use Rattle.rules.specs.declared.Session.{Session}
 use Rattle.rules.specs.declared.Tables.{Tables}
 use Rattle.rules.specs.Fresh.{freshSession, freshTables, freshDesk}
-use Rattle.rules.specs.Sound.{sound}
 use Rattle.rules.specs.Calls.{Call, rule, step}
 use Rattle.rules.specs.Laws.StaysSound.{DeskInvariant}
 use Rattle.rules.specs.Laws.Reached.{call-keeps}
@@ -85,9 +84,6 @@ module _ (l out₀ : List ℕ) (start : ℕ) where
       })
 
   module _ (t : Tables) (slots : List Session) (n p at : ℕ) (out : List ℕ) (h : ReplayLoop l out₀ start t slots n p at out) where
-    pub replay-sound : sound (deskOf t slots) ≡ true
-    replay-sound = h .held .passes
-
     pub count-fits : Fits w64 (n + 1)
     count-fits = record { fits = omega (arith, h .count, h .place, h .short) }
 

@@ -9,6 +9,5 @@ pub mod NextLaws
 pub mod Groups
 pub mod ItemLaws
 pub mod Parts
-pub mod Soon
 pub mod Replay
 pub mod Cases

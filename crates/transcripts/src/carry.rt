@@ -97,7 +97,7 @@ fn slot_work(t: Tables, s: Session, which: SlotCall, r: Record, body: &[u8]) -> 
     }
 }
 
-pub(crate) fn session_of(slots: [Session; 4], slot: usize) -> Session
+fn session_of(slots: [Session; 4], slot: usize) -> Session
     requires { ⌜ slot < 4 ⌝ }
     ensures { λ s. ⌜ s ≡ getD slots slot freshSession ⌝ }
 {

@@ -5,18 +5,13 @@ mod digits;
 mod items;
 mod lines;
 mod replay;
-mod soon;
-mod whole;
+mod wide;
 
 use journal::Record;
 pub use replay::replay_into;
 pub use replay::room_for;
 use rules::Answer;
-use rules::Entry;
-use rules::Relay;
 use rules::Session;
-use rules::Token;
-use rules::Volume;
 
 // The calls by the part of the desk that they change.
 pub enum RelayCall {
@@ -73,22 +68,4 @@ pub struct Item {
 pub struct SlotsOutcome {
     pub answer: Answer,
     pub sessions: [Session; 4],
-}
-
-pub struct CommitOutcome {
-    pub answer: Answer,
-    pub volumes: [Volume; 8],
-    pub entries: [Entry; 64],
-    pub tokens: [Token; 32],
-    pub relays: [Relay; 32],
-    pub session: Session,
-}
-
-pub struct AdvanceOutcome {
-    pub answer: Answer,
-    pub clock: u64,
-    pub volumes: [Volume; 8],
-    pub entries: [Entry; 64],
-    pub tokens: [Token; 32],
-    pub relays: [Relay; 32],
 }

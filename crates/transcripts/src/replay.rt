@@ -24,7 +24,7 @@ use super::lines::put_end_line;
 use super::lines::put_first_line;
 use super::lines::put_record_line;
 use super::lines::put_stop_line;
-use super::whole::wide_call;
+use super::wide::wide_call;
 use journal::Written;
 use journal::start_fault;
 use rules::Desk;

@@ -4,7 +4,7 @@ use Prim.Native.Nat.{_-_}
 use lib.ListN.{length}
 use Rattle.transcripts.proofs.GroupLaws.{relays-stand, relays-said, relays-carried, volumes-stand, volumes-said, volumes-carried, tokens-stand, tokens-said, tokens-carried, slot-stand, slot-said, slot-carried, look-stand, look-said, look-carried, wide-stand, wide-said, wide-carried}
 use borrow.Author.Needs.{needs}
-use Rattle.transcripts.proofs.ReplayLaws.{ReplayLoop, replay-start, replay-sound, count-fits, ends, stops, places, line-room, fewer-left, replay-step}
+use Rattle.transcripts.proofs.ReplayLaws.{ReplayLoop, replay-start, count-fits, ends, stops, places, line-room, fewer-left, replay-step}
 use Rattle.transcripts.proofs.replay.replay_records.Statement.{statement}
 use Rattle.transcripts.proofs.replay.replay_records.Tie as tie
 
@@ -38,7 +38,7 @@ replay-records-spec =
     (λ c. search needs)
     (λ c κs. search needs)
     (λ c. search needs)
-    (λ c κs. search replay-sound)
+    (λ c κs. search needs)
     (λ c. search count-fits)
     (λ c κs. ⊎-elim (λ w. search (line-room, relays-said))
     (⊎-elim (λ w. search (line-room, volumes-said))

@@ -1,8 +1,8 @@
 -- `commit_call` meets its contract: there is no such slot, or its session is committed. Assumes nothing.
 use borrow.Author.Needs.{needs}
 use Rattle.transcripts.proofs.CarryLaws.{no-commit, commits-on}
-use Rattle.transcripts.proofs.whole.commit_call.Statement.{statement}
-use Rattle.transcripts.proofs.whole.commit_call.Tie as tie
+use Rattle.transcripts.proofs.wide.commit_call.Statement.{statement}
+use Rattle.transcripts.proofs.wide.commit_call.Tie as tie
 
 pub commit-call-spec : {M : Type 1} → statement M
 commit-call-spec =

@@ -1,8 +1,8 @@
 -- `wide_call` meets its contract: by the call. Assumes nothing.
 use borrow.Author.Needs.{needs}
 use Rattle.transcripts.proofs.CarryLaws.{advanced, deleted, committed, removed}
-use Rattle.transcripts.proofs.whole.wide_call.Statement.{statement}
-use Rattle.transcripts.proofs.whole.wide_call.Tie as tie
+use Rattle.transcripts.proofs.wide.wide_call.Statement.{statement}
+use Rattle.transcripts.proofs.wide.wide_call.Tie as tie
 
 pub wide-call-spec : {M : Type 1} → statement M
 wide-call-spec =
