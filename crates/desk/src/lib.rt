@@ -1,7 +1,7 @@
 // The calls on the desk. Each takes the desk by value and gives it back with the answer. Each tests the desk first, then its
 // input, in the order of document 01; a refusal gives the desk back as it came. The work of each call stands in the crate of
-// its subject and gives back the part that it changes; parts.rt puts that back into the desk.
-mod parts;
+// its subject and gives back the part that it changes; the crate `parts` puts that back into the desk.
+mod sound_work;
 
 ghost use mathlib.Core.Path.{_≡_};
 ghost use Rattle.tokens.specs.Parts.{scopeArg};
@@ -10,6 +10,8 @@ use amount::Cap;
 use parts::answered;
 use parts::refuse;
 use parts::slot_of;
+use parts::with_advance;
+use parts::with_commit;
 use parts::with_delete;
 use parts::with_relays;
 use parts::with_remove;
@@ -25,7 +27,20 @@ use rules::RelayNo;
 use rules::TokenNo;
 use rules::VolumeNo;
 use rules::numbers::BAD;
+use sound_work::advance_when_sound;
+use sound_work::commit_when_sound;
 use soundness::is_sound;
+
+// The clock goes on to a block: relays leave, rents are paid where an epoch ends, and volumes are collected.
+pub fn advance(d: Desk, block: u64) -> Outcome
+    ensures { λ r. ⌜ r ≡ step (Call.ask (Ask.advance block)) d ⌝ }
+{
+    if !is_sound(d) {
+        return refuse(d, BAD);
+    }
+    let t = d.tables;
+    with_advance(d, advance_when_sound(t, block))
+}
 
 // An account makes a volume of k data shards and m parity shards for each object.
 pub fn create(d: Desk, account: Account, name: &[u8], k: u8, m: u8, cap: Cap) -> Outcome
@@ -157,6 +172,22 @@ pub fn stage(d: Desk, slot: u8, path: &[u8], size: u64, hash: Hash) -> Outcome
     let t = d.tables;
     let s = slot_of(d, i);
     with_session(d, i, sessions::stage_on(t, s, path, size, hash))
+}
+
+// A session ends with its staged objects stored.
+pub fn commit(d: Desk, slot: u8) -> Outcome
+    ensures { λ r. ⌜ r ≡ step (Call.onSlot slot Work.commits) d ⌝ }
+{
+    if !is_sound(d) {
+        return refuse(d, BAD);
+    }
+    if 4 <= slot {
+        return refuse(d, BAD);
+    }
+    let i = slot as usize;
+    let t = d.tables;
+    let s = slot_of(d, i);
+    with_commit(d, i, commit_when_sound(t, s))
 }
 
 // A session ends with nothing stored.

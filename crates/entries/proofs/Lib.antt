@@ -1,1 +1,4 @@
+pub mod CountLaws
+pub mod PathLaws
 pub mod RemoveLaws
+pub mod StoreLaws

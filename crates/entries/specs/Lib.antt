@@ -1,3 +1,4 @@
 pub mod Marks
 pub mod MarkLaws
 pub mod Parts
+pub mod Stores

@@ -1,7 +1,9 @@
-// The entry table: entries that go out of it, with the room that they give back, and the work of remove. Each function reads what
-// it needs and gives back what it changes. Every function here answers for every input.
+// The entry table: entries that go out of it, with the room that they give back, the work of remove, and what a commit stores. Each
+// function reads what it needs and gives back what it changes. Every public function answers for every input.
 mod marks;
+mod paths;
 mod remove;
+mod stores;
 
 pub use marks::clear_marked;
 pub use marks::give_back;
@@ -11,6 +13,11 @@ use rules::Answer;
 use rules::Entry;
 use rules::Relay;
 use rules::Volume;
+pub use stores::count_new;
+pub use stores::count_used;
+pub use stores::is_replaced;
+pub use stores::mark_replaced;
+pub use stores::store_all;
 
 // What a remove leaves: the volume, entry and relay tables.
 pub struct RemoveOutcome {

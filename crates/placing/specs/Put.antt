@@ -1,5 +1,5 @@
 -- Document 01, "Relays": the placing of one put, as placeAll does it put by put. It is not placed where K+M is above the 24 places of a placement
--- or the machine's numbers have no room; on sound tables neither is so (PutLaws). Assumes nothing.
+-- or the machine's numbers have no room; for K and M in their ranges, on relays that hold no more than a desk can have, neither is so (PutLaws). Assumes nothing.
 use mathlib.Core.Bool.{true, false, cond}
 use mathlib.Core.List.{List, map}
 use Prim.Native.Nat.{ℕ, _+_}
@@ -16,7 +16,7 @@ use Rattle.placing.specs.Room.{canLoadAll}
 unfoldable pub notPlaced : List Relay → PlacedPut
 notPlaced rs = record { placed = false; place = freshPlacement; rows = rs }
 
--- the relays of a placement take their shards
+-- the relays of a placement take their shards; none does where a number has no room
 unfoldable pub tookPlace : ℕ → Placement → List Relay → PlacedPut
 tookPlace bytes p rs = cond (canLoadAll bytes p rs) (record { placed = true; place = p; rows = map (loaded bytes p) rs }) (notPlaced rs)
 

@@ -32,7 +32,7 @@ pub struct Loaded {
     pub rows: [Relay; 32],
 }
 
-// What placing one put gives: its placement and the relays that took its shards, or no relays and the table as it was.
+// What placing one put gives: its placement and the relay table after its shards were taken, or that it has no place and the table as it was.
 pub struct PlacedPut {
     pub placed: bool,
     pub place: Placement,

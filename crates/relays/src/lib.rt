@@ -1,5 +1,5 @@
 // The work of register and heartbeat. Each reads the tables and gives back the part that it changes, with its answer:
-// specs/Parts.antt says what that makes of the whole. Every function here answers for every input.
+// specs/Parts.antt says what that makes of the whole. Every public function answers for every input.
 mod answers;
 mod heartbeat;
 mod register;

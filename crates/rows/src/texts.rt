@@ -41,7 +41,7 @@ pub fn find_entry(rows: [Entry; 64], n: VolumeNo, path: &[u8]) -> Found
 }
 
 // How many of a session's 8 put places are in use.
-fn put_count(count: usize) -> usize
+pub fn put_count(count: usize) -> usize
     ensures { λ r. ⌜ r ≡ min count 8 ⌝ }
 {
     if count < 8 { count } else { 8 }

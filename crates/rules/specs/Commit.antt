@@ -65,7 +65,7 @@ passesRoom t v ps = ltb entryRows (countIf usedEntry (t .entries) + countIf (isN
 unfoldable pub belowRent : Tables → Volume → List Put → Bool
 belowRent t v ps = ltb (v .balance) (rentFor (t .rate) v (sizesAfter (v .no) ps (t .entries)))
 
--- what placing gives: too few relays for some put, or a placement for each and the relays that took them
+-- what placing gives: too few relays for some put, or a placement for each and the relay table after them
 pub data Placed : Type 0 where
   noPlace : Placed
   placed : List Placement → List Relay → Placed

@@ -1,5 +1,5 @@
 // The work of open, stage and abandon, each on the tables and one slot. The tables are only read: a call gives back the
-// slot's session, with its answer. Every function here answers for every input.
+// slot's session, with its answer. Every public function answers for every input.
 mod abandon;
 mod answers;
 mod open;

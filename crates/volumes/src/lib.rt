@@ -1,5 +1,5 @@
 // The work of create, deposit, delete and undelete. Each reads the tables and gives back the part that it changes, with its
-// answer: specs/Parts.antt says what that makes of the whole. Every function here answers for every input.
+// answer: specs/Parts.antt says what that makes of the whole. Every public function answers for every input.
 mod answers;
 mod create;
 mod delete;

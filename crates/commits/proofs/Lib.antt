@@ -1,0 +1,5 @@
+pub mod FamilyLaws
+pub mod QuotaLaws
+pub mod PlaceLoops
+pub mod SizeLaws
+pub mod CommitLaws

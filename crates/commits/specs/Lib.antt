@@ -1,0 +1,4 @@
+pub mod Parts
+pub mod Within
+pub mod Stored
+pub mod WithinLaws

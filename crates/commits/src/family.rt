@@ -1,0 +1,87 @@
+// A token and its ancestors, whose quotas a commit must not pass.
+ghost use mathlib.Core.Path.{_≡_};
+ghost use Prim.Native.Nat.{_+_, _≤_};
+ghost use lib.Dec.{ltb};
+ghost use lib.ListN.{take};
+ghost use Rattle.lists.specs.Lists.{anyOf};
+ghost use Rattle.rules.specs.Scope.{family, passesCap, passesQuota};
+use amount::Cap;
+use lists::Found;
+use rows::find_token;
+use rules::Token;
+use rules::TokenNo;
+
+// The first `len` tokens, nearest first.
+pub(crate) struct Family {
+    pub tokens: [Token; 8],
+    pub len: usize,
+}
+
+// The token and its ancestors, which are followed up to a chain of 8.
+pub(crate) fn family_of(rows: [Token; 32], k: Token) -> Family
+    ensures { λ r. ⌜ (take (r .len) (r .tokens) ≡ family rows k) × (r .len ≤ 8) ⌝ }
+{
+    let mut tokens = [k; 8];
+    let mut n: usize = 1;
+    let mut parent = k.parent.0;
+    while n < 8 {
+        let Found::At(i) = find_token(rows, TokenNo(parent)) else {
+            return Family { tokens, len: n };
+        };
+        let x = rows[i];
+        tokens[n] = x;
+        parent = x.parent.0;
+        n += 1;
+    }
+    Family { tokens, len: n }
+}
+
+// Whether a sum passes a limit. The sum itself may not fit in 64 bits.
+fn passes(limit: u64, a: u64, b: u64) -> bool
+    ensures { λ r. ⌜ r ≡ ltb limit (a + b) ⌝ }
+{
+    if limit < b {
+        return true;
+    }
+    limit - b < a
+}
+
+// Whether a sum of bytes passes the cap.
+pub(crate) fn passes_cap(cap: Cap, a: u64, b: u64) -> bool
+    ensures { λ r. ⌜ r ≡ passesCap cap (a + b) ⌝ }
+{
+    match cap {
+        Cap::Unlimited => false,
+        Cap::Bytes(limit) => passes(limit, a, b),
+    }
+}
+
+// Whether so many bytes more pass the token's cap, or 2^60.
+fn passes_quota(k: Token, bytes: u64) -> bool
+    ensures { λ r. ⌜ r ≡ passesQuota bytes k ⌝ }
+{
+    let scope = k.scope;
+    let cap = scope.cap;
+    if passes_cap(cap, k.used, bytes) {
+        return true;
+    }
+    passes(1152921504606846976, k.used, bytes)
+}
+
+// Whether they pass the quota of one of the tokens.
+pub(crate) fn passes_quotas(f: Family, bytes: u64) -> bool
+    requires { ⌜ f .len ≤ 8 ⌝ }
+    ensures { λ r. ⌜ r ≡ anyOf (passesQuota bytes) (take (f .len) (f .tokens)) ⌝ }
+{
+    let tokens = f.tokens;
+    let n = f.len;
+    let mut i: usize = 0;
+    while i < n {
+        let k = tokens[i];
+        if passes_quota(k, bytes) {
+            return true;
+        }
+        i += 1;
+    }
+    false
+}

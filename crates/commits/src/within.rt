@@ -1,0 +1,164 @@
+// The limits that a commit's sums rest on.
+ghost use mathlib.Core.Path.{_≡_};
+ghost use Prim.Native.Nat.{_≤_};
+ghost use lib.ListN.{take};
+ghost use Rattle.lists.specs.Lists.{allOf};
+ghost use Rattle.commits.specs.Within.{volumeWithin, entryWithin, tokenWithin, relayWithin, putWithin, sessionWithin, inLimits};
+use rows::shards_fit;
+use rules::Entry;
+use rules::Put;
+use rules::Relay;
+use rules::Session;
+use rules::Tables;
+use rules::Token;
+use rules::Volume;
+
+fn volume_within(v: Volume) -> bool
+    ensures { λ r. ⌜ r ≡ volumeWithin v ⌝ }
+{
+    if v.no.0 == 0 {
+        return true;
+    }
+    shards_fit(v.k, v.m)
+}
+
+fn entry_within(e: Entry) -> bool
+    ensures { λ r. ⌜ r ≡ entryWithin e ⌝ }
+{
+    if e.volume.0 == 0 {
+        return true;
+    }
+    e.size <= 68719476736
+}
+
+fn token_within(k: Token) -> bool
+    ensures { λ r. ⌜ r ≡ tokenWithin k ⌝ }
+{
+    if k.no.0 == 0 {
+        return true;
+    }
+    k.used <= 1152921504606846976
+}
+
+fn relay_within(x: Relay) -> bool
+    ensures { λ r. ⌜ r ≡ relayWithin x ⌝ }
+{
+    if x.no.0 == 0 {
+        return true;
+    }
+    if 4398046511104 < x.used {
+        return false;
+    }
+    x.held <= 64
+}
+
+fn put_within(p: Put) -> bool
+    ensures { λ r. ⌜ r ≡ putWithin p ⌝ }
+{
+    p.size <= 68719476736
+}
+
+fn all_volumes(rows: [Volume; 8]) -> bool
+    ensures { λ r. ⌜ r ≡ allOf volumeWithin rows ⌝ }
+{
+    let mut i: usize = 0;
+    while i < 8 {
+        let v = rows[i];
+        if !volume_within(v) {
+            return false;
+        }
+        i += 1;
+    }
+    true
+}
+
+fn all_entries(rows: [Entry; 64]) -> bool
+    ensures { λ r. ⌜ r ≡ allOf entryWithin rows ⌝ }
+{
+    let mut i: usize = 0;
+    while i < 64 {
+        let e = rows[i];
+        if !entry_within(e) {
+            return false;
+        }
+        i += 1;
+    }
+    true
+}
+
+fn all_tokens(rows: [Token; 32]) -> bool
+    ensures { λ r. ⌜ r ≡ allOf tokenWithin rows ⌝ }
+{
+    let mut i: usize = 0;
+    while i < 32 {
+        let k = rows[i];
+        if !token_within(k) {
+            return false;
+        }
+        i += 1;
+    }
+    true
+}
+
+fn all_relays(rows: [Relay; 32]) -> bool
+    ensures { λ r. ⌜ r ≡ allOf relayWithin rows ⌝ }
+{
+    let mut i: usize = 0;
+    while i < 32 {
+        let x = rows[i];
+        if !relay_within(x) {
+            return false;
+        }
+        i += 1;
+    }
+    true
+}
+
+// The first `count` puts.
+fn all_puts(rows: [Put; 8], count: usize) -> bool
+    requires { ⌜ count ≤ 8 ⌝ }
+    ensures { λ r. ⌜ r ≡ allOf putWithin (take count rows) ⌝ }
+{
+    let mut i: usize = 0;
+    while i < count {
+        let p = rows[i];
+        if !put_within(p) {
+            return false;
+        }
+        i += 1;
+    }
+    true
+}
+
+fn session_within(s: Session) -> bool
+    ensures { λ r. ⌜ r ≡ sessionWithin s ⌝ }
+{
+    if 8 < s.count {
+        return false;
+    }
+    let puts = s.puts;
+    all_puts(puts, s.count)
+}
+
+// Whether the tables and the session are within the limits.
+pub(crate) fn in_limits(t: Tables, s: Session) -> bool
+    ensures { λ r. ⌜ r ≡ inLimits t s ⌝ }
+{
+    if !session_within(s) {
+        return false;
+    }
+    let volumes = t.volumes;
+    if !all_volumes(volumes) {
+        return false;
+    }
+    let entries = t.entries;
+    if !all_entries(entries) {
+        return false;
+    }
+    let tokens = t.tokens;
+    if !all_tokens(tokens) {
+        return false;
+    }
+    let relays = t.relays;
+    all_relays(relays)
+}

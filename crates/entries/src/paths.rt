@@ -1,0 +1,55 @@
+// Rows by a path that is a text, of an entry or of a put.
+ghost use mathlib.Core.Path.{_≡_};
+ghost use lib.ListN.{length, take};
+ghost use Rattle.lists.specs.Lists.{firstAt, anyOf};
+ghost use Rattle.text.specs.Text.{textBytes, toText};
+ghost use Rattle.rules.specs.Tables.{isEntry, isPut};
+use lists::Found;
+use rows::find_entry;
+use rows::find_put;
+use rules::Entry;
+use rules::Put;
+use rules::VolumeNo;
+use text::PATH_LIMIT;
+use text::Text;
+
+// How many bytes the text has: at most as many as its array.
+fn text_len(t: Text) -> usize
+    ensures { λ r. ⌜ r ≡ length (textBytes t) ⌝ }
+{
+    if t.len < PATH_LIMIT {
+        t.len
+    } else {
+        PATH_LIMIT
+    }
+}
+
+// The text written anew, padded with zeros.
+pub(crate) fn write_anew(t: Text) -> Text
+    ensures { λ r. ⌜ r ≡ toText (textBytes t) ⌝ }
+{
+    let n = text_len(t);
+    let b = t.bytes;
+    text::to_text(&b[..n])
+}
+
+// The row of the volume's entry at the path.
+pub(crate) fn entry_at(entries: [Entry; 64], n: VolumeNo, path: Text) -> Found
+    ensures { λ r. ⌜ r ≡ firstAt (isEntry n (textBytes path)) 0 entries ⌝ }
+{
+    let k = text_len(path);
+    let b = path.bytes;
+    find_entry(entries, n, &b[..k])
+}
+
+// Whether one of the first `count` puts is staged at the path.
+pub(crate) fn is_staged(puts: [Put; 8], count: usize, path: Text) -> bool
+    ensures { λ r. ⌜ r ≡ anyOf (isPut (textBytes path)) (take count puts) ⌝ }
+{
+    let k = text_len(path);
+    let b = path.bytes;
+    let Found::At(_) = find_put(puts, count, &b[..k]) else {
+        return false;
+    };
+    true
+}

@@ -1,0 +1,138 @@
+// What a commit does to the entry table: which entries its puts replace, how many rows they need, and the table with all of them stored.
+ghost use mathlib.Core.Path.{_≡_};
+ghost use mathlib.Core.List.{map};
+ghost use lib.ListN.{take};
+ghost use Rattle.lists.specs.Lists.{countIf};
+ghost use Rattle.rules.specs.Tables.{usedEntry};
+ghost use Rattle.rules.specs.Commit.{isReplaced, isNewPath, entryFor, storeAll};
+ghost use Rattle.entries.specs.Stores.{rowFor};
+use super::paths::entry_at;
+use super::paths::is_staged;
+use super::paths::write_anew;
+use lists::Found;
+use rows::free_entry;
+use rows::is_number;
+use rows::put_count;
+use rules::Entry;
+use rules::Placement;
+use rules::Put;
+use rules::VolumeNo;
+
+// Whether one of the first `count` puts replaces the entry.
+pub fn is_replaced(e: Entry, n: VolumeNo, puts: [Put; 8], count: usize) -> bool
+    ensures { λ r. ⌜ r ≡ isReplaced n (take count puts) e ⌝ }
+{
+    if !is_number(n.0, e.volume.0) {
+        return false;
+    }
+    let path = e.path;
+    is_staged(puts, count, path)
+}
+
+// A mark for each entry: whether one of the first `count` puts replaces it.
+pub fn mark_replaced(entries: [Entry; 64], n: VolumeNo, puts: [Put; 8], count: usize) -> [bool; 64]
+    ensures { λ r. ⌜ r ≡ map (isReplaced n (take count puts)) entries ⌝ }
+{
+    let mut marks = [false; 64];
+    let mut i: usize = 0;
+    while i < 64 {
+        let e = entries[i];
+        marks[i] = is_replaced(e, n, puts, count);
+        i += 1;
+    }
+    marks
+}
+
+// How many entries are in use.
+pub fn count_used(entries: [Entry; 64]) -> usize
+    ensures { λ r. ⌜ r ≡ countIf usedEntry entries ⌝ }
+{
+    let mut used: usize = 0;
+    let mut i: usize = 0;
+    while i < 64 {
+        if 0 < entries[i].volume.0 {
+            used += 1;
+        }
+        i += 1;
+    }
+    used
+}
+
+// Whether the put's path is new to the volume.
+fn is_new_path(entries: [Entry; 64], n: VolumeNo, p: Put) -> bool
+    ensures { λ r. ⌜ r ≡ isNewPath n entries p ⌝ }
+{
+    let path = p.path;
+    let Found::At(_) = entry_at(entries, n, path) else {
+        return true;
+    };
+    false
+}
+
+// How many of the first `count` puts have a path that is new to the volume.
+pub fn count_new(entries: [Entry; 64], n: VolumeNo, puts: [Put; 8], count: usize) -> usize
+    ensures { λ r. ⌜ r ≡ countIf (isNewPath n entries) (take count puts) ⌝ }
+{
+    let m = put_count(count);
+    let mut new: usize = 0;
+    let mut i: usize = 0;
+    while i < m {
+        let p = puts[i];
+        if is_new_path(entries, n, p) {
+            new += 1;
+        }
+        i += 1;
+    }
+    new
+}
+
+// The entry of a put.
+fn entry_for(n: VolumeNo, p: Put, place: Placement) -> Entry
+    ensures { λ r. ⌜ r ≡ entryFor n p place ⌝ }
+{
+    let old = p.path;
+    let path = write_anew(old);
+    let hash = p.hash;
+    Entry {
+        volume: n,
+        path,
+        size: p.size,
+        hash,
+        placement: place,
+    }
+}
+
+// The row that a put is stored in.
+fn row_for(entries: [Entry; 64], n: VolumeNo, p: Put) -> Found
+    ensures { λ r. ⌜ r ≡ rowFor n p entries ⌝ }
+{
+    let path = p.path;
+    let Found::At(i) = entry_at(entries, n, path) else {
+        return free_entry(entries);
+    };
+    Found::At(i)
+}
+
+// The entries after the first `count` puts are stored in staging order, each with the placement of its index.
+pub fn store_all(
+    entries: [Entry; 64],
+    n: VolumeNo,
+    puts: [Put; 8],
+    places: [Placement; 8],
+    count: usize,
+) -> [Entry; 64]
+    ensures { λ r. ⌜ r ≡ storeAll n (take count puts) (take count places) entries ⌝ }
+{
+    let m = put_count(count);
+    let mut out = entries;
+    let mut i: usize = 0;
+    while i < m {
+        let p = puts[i];
+        let place = places[i];
+        if let Found::At(j) = row_for(out, n, p) {
+            out[j] = entry_for(n, p, place);
+        }
+        i += 1;
+    }
+    out
+}

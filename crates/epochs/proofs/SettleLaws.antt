@@ -1,0 +1,96 @@
+-- A volume, and the volumes, at an epoch end, or as they were where the machine's numbers cannot settle one. Assumes nothing.
+use mathlib.Core.Path.{_≡_, sym, _∙_, ap}
+use mathlib.Core.Bool.{true, false, not}
+use mathlib.Core.List.{List, map}
+use Prim.Native.Nat.{ℕ, _+_, _<_, _≤_}
+use native.Mathlib.Omega.{arith}
+use borrow.Author.Needs.{needs}
+use borrow.Author.Tests.{not-false, lt-ltb, le-ltb}
+use lib.ListN.{length, getD, set}
+use Rattle.lists.specs.AnswerLaws.{none-given, some-given}
+use Rattle.lists.specs.LoopLaws.{AllLoop, all-start, all-step, all-failed, all-passed}
+use Rattle.lists.specs.ByteLoopLaws.{FillLoop, fill-start, fill-step-of, fill-whole, least-mapped, length-mapped}
+use Rattle.lists.specs.RowLaws.{rows-length}
+use Rattle.rules.specs.declared.Volume.{Volume}
+use Rattle.rules.specs.declared.Tables.{Tables}
+use Rattle.rules.specs.Advance.{afterRent, settled}
+use Rattle.rents.specs.declared.Rent.{Rent}
+use Rattle.rents.specs.declared.Rent.the-variants.{Coins, PastLimits}
+use Rattle.rents.specs.Within.{volumeRent}
+use Rattle.rents.specs.WithinLaws.{rent-exact}
+use Rattle.epochs.specs.declared.SettledRow.{SettledRow}
+use Rattle.epochs.specs.Within.{mostGrace, canSettle, canSettleAll, settledRow, settledRows}
+
+module _ (t : Tables) (v : Volume) where
+  pub free-stays : v .no .0 ≡ 0 → record { fits = true; row = v } ≡ settledRow t v
+  unfolding settledRow canSettle settled
+  free-stays e = sym (rw (none-given (v .no .0) e))
+
+  -- x is the rent that the code asked for
+  module _ (x : Rent) (some : v .no .0 ≡ 0 → ⊥) (e : x ≡ volumeRent t v) where
+    pub past-limits : x ≡ PastLimits → record { fits = false; row = v } ≡ settledRow t v
+    unfolding settledRow canSettle
+    past-limits w = sym (rw (some-given (v .no .0) some, sym e ∙ w))
+
+    module _ (rent : ℕ) (w : x ≡ Coins rent) where
+      pub grace-full : mostGrace ≤ v .grace → record { fits = false; row = v } ≡ settledRow t v
+      unfolding settledRow canSettle
+      grace-full h = sym (rw (some-given (v .no .0) some, sym e ∙ w, le-ltb (v .grace) mostGrace h))
+
+      -- y is what the code made of the volume
+      pub rent-paid : (y : Volume) → v .grace < mostGrace → y ≡ afterRent rent v → record { fits = true; row = y } ≡ settledRow t v
+      unfolding settledRow canSettle settled
+      rent-paid y h q =
+          rw q (sym (rw (some-given (v .no .0) some, sym e ∙ w, lt-ltb (v .grace) mostGrace h, ← rent-exact t v rent (sym e ∙ w))))
+
+pub ruleset settles-row = (free-stays, past-limits, grace-full, rent-paid, needs)
+
+-- the first i rows can be settled and are stored as they are after
+pub record SettleLoop (t : Tables) (rows : List Volume) (n i : ℕ) (out : List Volume) : Type 0 where
+  pub fitting : AllLoop (canSettle t) rows n i
+  pub stored : FillLoop rows 0 (map (settled t) rows) n i out
+
+module _ (t : Tables) (n : ℕ) where
+  abbrev rows : List Volume
+  rows = t .volumes
+
+  pub settle-start : length rows ≡ n → SettleLoop t rows n 0 rows
+  settle-start e =
+      record {
+        fitting = all-start (canSettle t) rows n e;
+        stored = fill-start rows 0 (map (settled t) rows) n (omega arith) (least-mapped (settled t) rows n e);
+      }
+
+  module _ (i : ℕ) (out : List Volume) (h : SettleLoop t rows n i out) where
+    pub settle-size : length out ≡ length rows
+    settle-size = h .stored .size
+
+    pub settle-end : n ≤ i → record { fits = true; rows = out } ≡ settledRows t
+    unfolding settledRows canSettleAll
+    settle-end k =
+        let a = all-passed (canSettle t) rows n i (h .fitting) k in
+        let w = fill-whole rows (map (settled t) rows) n i out (h .stored) k (h .fitting .size) (length-mapped (settled t) rows n (h .fitting .size)) in
+        rw (← a, w)
+
+    -- x is what the code made of row i
+    module _ (d : Volume) (x : SettledRow) (k : i < n) (e : x ≡ settledRow t (getD rows i d)) where
+      fits-row : x .fits ≡ canSettle t (getD rows i d)
+      unfolding settledRow
+      fits-row = ap (λ (y : SettledRow). y .fits) e
+
+      pub settle-fails : not (x .fits) ≡ true → record { fits = false; rows = rows } ≡ settledRows t
+      unfolding settledRows canSettleAll
+      settle-fails f = let a = all-failed d (canSettle t) rows n i (x .fits) (h .fitting) k fits-row f in rw (← a)
+
+      made-row : not (x .fits) ≡ false → x .row ≡ settled t (getD rows i d)
+      unfolding settledRow
+      made-row f = ap (λ (y : SettledRow). y .row) e ∙ rw (sym fits-row ∙ not-false (x .fits) f)
+
+      pub settle-step : not (x .fits) ≡ false → SettleLoop t rows n (i + 1) (set out i (x .row))
+      settle-step f =
+          record {
+            fitting = all-step d (canSettle t) rows n i (x .fits) (h .fitting) k fits-row f;
+            stored = fill-step-of (settled t) d rows rows n i out (x .row) (h .stored) k (made-row f);
+          }
+
+pub ruleset settles = (settle-step, settle-fails, settle-end, settle-size, settle-start, rows-length, needs)

@@ -1,0 +1,11 @@
+-- `advance::accept` meets its contract. Assumes nothing.
+use borrow.Author.Needs.{needs}
+use Rattle.epochs.proofs.advance.accept.Statement.{statement}
+use Rattle.epochs.proofs.advance.accept.Tie as tie
+
+pub accept-spec : {M : Type 1} → statement M
+accept-spec =
+    tie.close
+    (tie.spec
+    (λ c κs. search needs)
+    (λ c. cc))

@@ -1,0 +1,5 @@
+pub mod Parts
+pub mod Gone
+pub mod GoneLaws
+pub mod Within
+pub mod WithinLaws

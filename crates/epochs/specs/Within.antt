@@ -1,0 +1,52 @@
+-- Document 01, "Rent": an advance in the machine's numbers, for every table. Where an epoch ends and a volume cannot be settled in them, the answer
+-- is 1 and nothing changes; on sound tables each can, and it is the rule's (WorkLaws). Assumes nothing.
+use mathlib.Core.Bool.{Bool, true, false, _&&_, _||_, cond, not}
+use mathlib.Core.List.{map}
+use Prim.Native.Nat.{ℕ, _-_, _^_}
+use lib.Dec.{leb, ltb}
+use Rattle.lists.specs.Lists.{allOf}
+use Rattle.rules.specs.declared.Volume.{Volume}
+use Rattle.rules.specs.declared.Tables.{Tables}
+use Rattle.rules.specs.declared.TablesOutcome.{TablesOutcome}
+use Rattle.rules.specs.Numbers.{BAD, CLOCK}
+use Rattle.rules.specs.Tables.{usedVolume}
+use Rattle.rules.specs.Rent.{epochEnds}
+use Rattle.rules.specs.Outcome.{refused, accepted}
+use Rattle.rules.specs.Advance.{settled, badBlock, advanced}
+use Rattle.rents.specs.declared.Rent.{Rent}
+use Rattle.rents.specs.declared.Rent.the-variants.{Coins, PastLimits}
+use Rattle.rents.specs.Within.{volumeRent}
+use Rattle.epochs.specs.declared.Settled.{Settled}
+use Rattle.epochs.specs.declared.SettledRow.{SettledRow}
+
+-- the most that the code's grace count holds
+abbrev pub mostGrace : ℕ
+mostGrace = 2 ^ 8 - 1
+
+abbrev pub isWorkedOut : Rent → Bool
+isWorkedOut (Coins coins) = true
+isWorkedOut PastLimits = false
+
+-- a free row, or a volume whose rent is worked out and whose grace count has room
+unfoldable pub canSettle : Tables → Volume → Bool
+canSettle t v = not (usedVolume v) || (isWorkedOut (volumeRent t v) && ltb (v .grace) mostGrace)
+
+unfoldable pub canSettleAll : Tables → Bool
+canSettleAll t = allOf (canSettle t) (t .volumes)
+
+-- a volume, and the volumes, at an epoch end; as they were where one cannot be settled
+unfoldable pub settledRow : Tables → Volume → SettledRow
+settledRow t v = record { fits = canSettle t v; row = cond (canSettle t v) (settled t v) v }
+
+unfoldable pub settledRows : Tables → Settled
+settledRows t = record { fits = canSettleAll t; rows = cond (canSettleAll t) (map (settled t) (t .volumes)) (t .volumes) }
+
+-- no epoch ends, or every volume can be settled
+unfoldable pub canAdvance : ℕ → Tables → Bool
+canAdvance block t = not (leb 1 (epochEnds (t .clock) block)) || canSettleAll t
+
+-- "01 advance | block | 16 | block", and 1 where a volume cannot be settled in the machine's numbers
+unfoldable pub advanceWithin : ℕ → Tables → TablesOutcome
+advanceWithin block t =
+    cond (badBlock (t .clock) block) (refused t CLOCK)
+    (cond (canAdvance block t) (accepted block (advanced t block)) (refused t BAD))

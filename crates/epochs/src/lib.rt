@@ -1,0 +1,39 @@
+// The work of advance: the clock goes on, relays leave, rents are paid at an epoch end, and volumes are collected. It reads the
+// tables and gives back the parts that it changes, with its answer: specs/Parts.antt says what that makes of the whole. It answers
+// for every input.
+mod advance;
+mod clock;
+mod collect;
+mod due;
+mod leave;
+mod paying;
+mod settle;
+
+pub use advance::advance_on;
+use rules::Answer;
+use rules::Entry;
+use rules::Relay;
+use rules::Token;
+use rules::Volume;
+
+// What an advance leaves.
+pub struct AdvanceOutcome {
+    pub answer: Answer,
+    pub clock: u64,
+    pub volumes: [Volume; 8],
+    pub entries: [Entry; 64],
+    pub tokens: [Token; 32],
+    pub relays: [Relay; 32],
+}
+
+// A volume after an epoch end, or as it was where the machine's numbers cannot settle it.
+pub(crate) struct SettledRow {
+    pub fits: bool,
+    pub row: Volume,
+}
+
+// The volumes after an epoch end, or as they were where the machine's numbers cannot settle one of them.
+pub(crate) struct Settled {
+    pub fits: bool,
+    pub rows: [Volume; 8],
+}

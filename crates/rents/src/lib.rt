@@ -1,0 +1,13 @@
+// What one epoch costs a volume. Every public function answers for every input.
+mod price;
+mod raw;
+
+pub use price::rent_of;
+pub use price::volume_rent;
+pub use raw::raw_in;
+
+// What a rent comes to: coins, or that K, M or the raw bytes are past the limits of the desk, and no rent is worked out.
+pub enum Rent {
+    Coins(u64),
+    PastLimits,
+}
