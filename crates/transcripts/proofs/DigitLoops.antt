@@ -1,6 +1,6 @@
 -- The loops over the digits of a number: for each its invariant, and the laws of its start, its step and its end. Assumes nothing.
 use mathlib.Core.Path.{_≡_, refl, sym, _∙_, ap}
-use mathlib.Core.List.{List, [], _∷_, _++_}
+use mathlib.Core.List.{List, [], _∷_}
 use Prim.Native.Nat.{ℕ, _+_, _-_, _/_, _%_, _^_, _<_, _≤_}
 use native.Mathlib.Omega.{arith}
 use borrow.Author.Needs.{needs}
@@ -9,6 +9,7 @@ use Rattle.amount.specs.Digits.{digit, decimal}
 use Rattle.amount.specs.DecimalLaws.{decimal-small, decimal-more, decimal-some}
 use Rattle.journal.specs.Writes.{over}
 use Rattle.transcripts.specs.LineLaws.{digits-20}
+use Rattle.transcripts.specs.Written.{Wrote}
 use Rattle.transcripts.proofs.OverLaws.{over-none, over-last}
 
 more-length : (n : ℕ) → 10 ≤ n → length (decimal n) ≡ length (decimal (n / 10)) + 1
@@ -62,11 +63,18 @@ module _ (out₀ : List ℕ) (at n : ℕ) where
           left = rw e (over-last at (decimal (rest / 10)) (digit (rest % 10)) out f ∙ ap (λ (d : List ℕ). over at d out) (sym (decimal-more rest k)) ∙ h .left);
         }
 
-    -- the first digit
-    pub digit-end : rest < 10 → set out (i - 1) (digit rest) ≡ over at (decimal n) out₀
-    digit-end k =
+    -- the first digit; count is how many there are
+    pub digit-end : (count : ℕ) → rest < 10 → count ≡ length (decimal n) → Wrote at (decimal n) out₀ (at + count) (set out (i - 1) (digit rest))
+    digit-end count k c =
         let e : i - 1 ≡ at + length {A = ℕ} [] = omega (arith, small-length rest k) in
         let f : at + length {A = ℕ} [] < length out = omega (arith, small-length rest k) in
-        rw e (sym (over-none at (set out (at + length {A = ℕ} []) (digit rest))) ∙ over-last at [] (digit rest) out f ∙ ap (λ (d : List ℕ). over at d out) (sym (decimal-small rest k)) ∙ h .left)
+        record {
+          place = omega arith;
+          buffer =
+              rw e
+              (sym (over-none at (set out (at + length {A = ℕ} []) (digit rest))) ∙ over-last at [] (digit rest) out f
+              ∙ ap (λ (d : List ℕ). over at d out) (sym (decimal-small rest k))
+              ∙ h .left);
+        }
 
 pub ruleset puts = (digit-step, digit-end, digit-start, needs)

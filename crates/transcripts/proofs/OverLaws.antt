@@ -1,15 +1,17 @@
 -- Bytes written over those of a buffer, piece after piece. Assumes nothing.
-use mathlib.Core.Path.{_≡_, sym, _∙_, ap}
+use mathlib.Core.Path.{_≡_, refl, sym, _∙_, ap}
 use mathlib.Core.List.{List, [], _∷_, _++_, append-assoc, append-nil}
 use Prim.Native.Nat.{ℕ, suc, _+_, _^_, _<_, _≤_}
 use native.Mathlib.Omega.{arith}
 use borrow.Author.Needs.{needs}
+use lib.Dec.{lit≤}
 use mir.Syntax.{w64}
 use mir.Val.{Fits}
 use lib.ListN.{length, take, drop, set, length-append, length-drop, take-append-drop}
-use lib.Seq.{append-snoc, take-set-le, set-split, drop-at, take-at, drop-drop, length-take-le, take-length, paste}
+use lib.Seq.{append-snoc, take-set-le, set-split, drop-at, take-at, drop-drop, length-take-le, take-length}
 use Rattle.lists.specs.ByteLoopLaws.{FillLoop, fill-end}
 use Rattle.journal.specs.Writes.{over}
+use Rattle.transcripts.specs.Written.{Wrote}
 
 -- nothing written
 pub over-none : (at : ℕ) (buf : List ℕ) → over at [] buf ≡ buf
@@ -59,47 +61,56 @@ byte-over p x buf h =
     sym (over-none p (set buf p x)) ∙ ap (λ (i : ℕ). over p [] (set buf i x)) (sym e) ∙ over-last p [] x buf (rw e h)
 
 -- the end of a loop that copies all of s
-pub filled-over : (at : ℕ) (s buf : List ℕ) (i : ℕ) (out : List ℕ) → FillLoop buf at s (length s) i out → length s ≤ i → out ≡ over at s buf
+pub filled-over : (at : ℕ) (s buf : List ℕ) (i : ℕ) (out : List ℕ) → FillLoop buf at s (length s) i out → length s ≤ i
+    → Wrote at s buf (at + length s) out
 filled-over at s buf i out h k =
-    fill-end buf at s (length s) i out h k ∙ ap (λ (m : List ℕ). take at buf ++ m ++ drop (at + length s) buf) (take-length s)
+    record {
+      place = refl;
+      buffer =
+          fill-end buf at s (length s) i out h k ∙ ap (λ (m : List ℕ). take at buf ++ m ++ drop (at + length s) buf) (take-length s);
+    }
 
--- two pieces as the code writes them: the first ends at the place p, and m is the buffer after it
+-- two pieces as the code writes them: m is the buffer after the first, which ends at p
 module _ (at : ℕ) (a b out : List ℕ) where
   pub room-first : at + length (a ++ b) ≤ length out → at + length a ≤ length out
   room-first h = omega (arith, length-append a b)
 
-  module _ (p : ℕ) (m : List ℕ) (e : p ≡ at + length a) (w : m ≡ over at a out) where
-    pub room-next : at + length (a ++ b) ≤ length out → p + length b ≤ length m
-    room-next h = rw (w, length-over at a out (room-first h)) (omega (arith, length-append a b))
+  module _ (p : ℕ) (m : List ℕ) (w : Wrote at a out p m) (h : at + length (a ++ b) ≤ length out) where
+    pub room-next : p + length b ≤ length m
+    room-next = rw (w .buffer, length-over at a out (room-first h)) (omega (arith, w .place, length-append a b))
 
-    pub ends-next : (r : ℕ) → r ≡ p + length b → r ≡ at + length (a ++ b)
-    ends-next r f = omega (arith, length-append a b)
-
-    pub wrote-next : (out′ : List ℕ) → at + length (a ++ b) ≤ length out → out′ ≡ over p b m → out′ ≡ over at (a ++ b) out
-    wrote-next out′ h f = f ∙ rw (e, w) (over-over at a b out (room-first h))
+    pub wrote-next : (r : ℕ) (out′ : List ℕ) → Wrote p b m r out′ → Wrote at (a ++ b) out r out′
+    wrote-next r out′ f =
+        record {
+          place = omega (arith, w .place, f .place, length-append a b);
+          buffer = f .buffer ∙ rw (w .place, w .buffer) (over-over at a b out (room-first h));
+        }
 
     -- where the second is one byte
-    pub room-byte : at + length (a ++ b) ≤ length out → 1 ≤ length b → p < length m
-    room-byte h k = omega (arith, room-next h)
+    pub room-byte : 1 ≤ length b → p < length m
+    room-byte k = omega (arith, room-next)
 
-    pub fits-byte : at + length (a ++ b) ≤ length out → length out < 2 ^ 64 → 1 ≤ length b → Fits w64 (p + 1)
-    fits-byte h l k = record { fits = omega (arith, length-append a b) }
+    pub fits-byte : 1 ≤ length b → length out < 2 ^ 64 → Fits w64 (p + 1)
+    fits-byte k l = record { fits = omega (arith, w .place, length-append a b) }
 
--- three pieces: the second ends at q, and n is the buffer after it
-module _ (at : ℕ) (a b c out : List ℕ) (h : at + length (a ++ b ++ c) ≤ length out) (p : ℕ) (m : List ℕ) (e : p ≡ at + length a) (w : m ≡ over at a out)
-    (q : ℕ) (n : List ℕ) (f : q ≡ p + length b) (v : n ≡ over p b m) where
-  within : at + length (a ++ b) ≤ length out
-  within = room-first at (a ++ b) c out h
+pub wrote-byte : (at : ℕ) (a : List ℕ) (x : ℕ) (out : List ℕ) (p : ℕ) (m : List ℕ) → Wrote at a out p m → at + length (a ++ (x ∷ [])) ≤ length out
+    → Wrote at (a ++ (x ∷ [])) out (p + 1) (set m p x)
+wrote-byte at a x out p m w h =
+    wrote-next at a (x ∷ []) out p m w h (p + 1) (set m p x)
+    (record { place = refl; buffer = byte-over p x m (room-byte at a (x ∷ []) out p m w h (lit≤ tt)) })
+
+-- three pieces: n is the buffer after the second, which ends at q
+module _ (at : ℕ) (a b c out : List ℕ) (h : at + length (a ++ b ++ c) ≤ length out) (p : ℕ) (m : List ℕ) (w : Wrote at a out p m) (q : ℕ) (n : List ℕ)
+    (v : Wrote p b m q n) where
+  two : Wrote at (a ++ b) out q n
+  two = wrote-next at a b out p m w (room-first at (a ++ b) c out h) q n v
 
   pub room-third : q + length c ≤ length n
-  room-third = room-next at (a ++ b) c out q n (ends-next at a b out p m e w q f) (wrote-next at a b out p m e w n within v) h
+  room-third = room-next at (a ++ b) c out q n two h
 
-  pub wrote-third : (out′ : List ℕ) → out′ ≡ over q c n → out′ ≡ over at (a ++ b ++ c) out
-  wrote-third out′ g = wrote-next at (a ++ b) c out q n (ends-next at a b out p m e w q f) (wrote-next at a b out p m e w n within v) out′ h g
+  pub wrote-third : (r : ℕ) (out′ : List ℕ) → Wrote q c n r out′ → Wrote at (a ++ b ++ c) out r out′
+  wrote-third = wrote-next at (a ++ b) c out q n two h
 
-  pub ends-third : (r : ℕ) → r ≡ q + length c → r ≡ at + length (a ++ b ++ c)
-  ends-third r g = omega (arith, length-append (a ++ b) c, length-append a b)
+pub ruleset pieces = (room-first, room-next, wrote-next, room-byte, fits-byte, wrote-byte, needs)
 
-pub ruleset pieces = (room-first, room-next, ends-next, wrote-next, room-byte, fits-byte, byte-over, needs)
-
-pub ruleset three = (room-third, ends-third, wrote-third)
+pub ruleset three = (room-third, wrote-third)

@@ -1,15 +1,22 @@
--- The kinds of calls by the part of the desk that they change, and the call that a record of each stands for. Assumes nothing.
-use mathlib.Core.Path.{_≡_, refl}
+-- The kinds of calls by the part of the desk that they change, the call that a record of each stands for, and what stands at a place of a
+-- journal. Assumes nothing.
+use mathlib.Core.Path.{_≡_}
+use mathlib.Core.Bool.{Bool, true, false}
 use mathlib.Core.List.{List}
-use Prim.Native.Nat.{ℕ}
+use mathlib.Core.Option.{Option, none, some}
+use Prim.Native.Nat.{ℕ, _+_, _-_}
+use lib.ListN.{take, drop}
 use Rattle.rules.specs.declared.Account.{Account}
 use Rattle.rules.specs.Scope.{ScopeArg}
 use Rattle.rules.specs.Calls.{Ask, advance, create, deposit, delete, undelete, grant, attenuate, revoke, remove, look, register, heartbeat, Work, opens, stages, commits, abandons, Call, ask, onSlot}
 use Rattle.journal.specs.declared.Kind.{Kind}
 use Rattle.journal.specs.declared.Kind.the-variants as kind
 use Rattle.journal.specs.declared.Record.{Record}
-use Rattle.journal.specs.Records.{v01, callOf, fieldsOf}
-use Rattle.journal.specs.Places.{accountAt, textAt, hashAt, valuesAt, callAt}
+use Rattle.journal.specs.Records.{v01}
+use Rattle.journal.specs.declared.Next.{Next}
+use Rattle.journal.specs.declared.Next.the-variants.{End, Whole, Stop}
+use Rattle.journal.specs.Journal.{nextIn}
+use Rattle.journal.specs.Places.{blank, accountAt, textAt, hashAt}
 use Rattle.transcripts.specs.declared.RelayCall.{RelayCall}
 use Rattle.transcripts.specs.declared.RelayCall.the-variants as relay
 use Rattle.transcripts.specs.declared.VolumeCall.{VolumeCall}
@@ -18,23 +25,26 @@ use Rattle.transcripts.specs.declared.TokenCall.{TokenCall}
 use Rattle.transcripts.specs.declared.TokenCall.the-variants as token
 use Rattle.transcripts.specs.declared.SlotCall.{SlotCall}
 use Rattle.transcripts.specs.declared.SlotCall.the-variants as slot
+use Rattle.transcripts.specs.declared.WideCall.{WideCall}
+use Rattle.transcripts.specs.declared.WideCall.the-variants as wide
 use Rattle.transcripts.specs.declared.Group.{Group}
 use Rattle.transcripts.specs.declared.Group.the-variants as group
+use Rattle.transcripts.specs.declared.Item.{Item}
 
 abbrev pub groupOf : Kind → Group
-groupOf kind.Advance = group.Advance
+groupOf kind.Advance = group.Wide wide.Advance
 groupOf kind.Create = group.Volumes volume.Create
 groupOf kind.Deposit = group.Volumes volume.Deposit
-groupOf kind.Delete = group.Delete
+groupOf kind.Delete = group.Wide wide.Delete
 groupOf kind.Undelete = group.Volumes volume.Undelete
 groupOf kind.Grant = group.Tokens token.Grant
 groupOf kind.Attenuate = group.Tokens token.Attenuate
 groupOf kind.Revoke = group.Tokens token.Revoke
 groupOf kind.Open = group.Slot slot.Open
 groupOf kind.Stage = group.Slot slot.Stage
-groupOf kind.Commit = group.Commit
+groupOf kind.Commit = group.Wide wide.Commit
 groupOf kind.Abandon = group.Slot slot.Abandon
-groupOf kind.Remove = group.Remove
+groupOf kind.Remove = group.Wide wide.Remove
 groupOf kind.Look = group.Look
 groupOf kind.Register = group.Relays relay.Register
 groupOf kind.Heartbeat = group.Relays relay.Heartbeat
@@ -61,12 +71,6 @@ tokenAsk token.Grant r l = grant (accountIn r l) (record { 0 = r .no }) (scopeIn
 tokenAsk token.Attenuate r l = attenuate (record { 0 = r .no }) (scopeIn r l)
 tokenAsk token.Revoke r l = revoke (accountIn r l) (record { 0 = r .no })
 
-abbrev pub deleteAsk : Record → List ℕ → Ask
-deleteAsk r l = delete (accountIn r l) (record { 0 = r .no })
-
-abbrev pub removeAsk : Record → List ℕ → Ask
-removeAsk r l = remove (accountIn r l) (record { 0 = r .no }) (textAt r l)
-
 abbrev pub lookAsk : Record → List ℕ → Ask
 lookAsk r l = look (record { 0 = r .no }) (textAt r l)
 
@@ -76,36 +80,47 @@ slotWork slot.Open r l = opens (record { 0 = r .no })
 slotWork slot.Stage r l = stages (textAt r l) (r .amount) (record { 0 = hashAt r l })
 slotWork slot.Abandon r l = abandons
 
--- the call of a record of the group
-abbrev pub callIn : Group → Record → List ℕ → Call
-callIn (group.Relays w) r l = ask (relayAsk w r)
-callIn (group.Volumes w) r l = ask (volumeAsk w r l)
-callIn (group.Tokens w) r l = ask (tokenAsk w r l)
-callIn (group.Slot w) r l = onSlot (r .slot) (slotWork w r l)
-callIn group.Delete r l = ask (deleteAsk r l)
-callIn group.Remove r l = ask (removeAsk r l)
-callIn group.Look r l = ask (lookAsk r l)
-callIn group.Commit r l = onSlot (r .slot) commits
-callIn group.Advance r l = ask (advance (r .amount))
+-- those that change several tables
+abbrev pub wideCall : WideCall → Record → List ℕ → Call
+wideCall wide.Advance r l = ask (advance (r .amount))
+wideCall wide.Delete r l = ask (delete (accountIn r l) (record { 0 = r .no }))
+wideCall wide.Commit r l = onSlot (r .slot) commits
+wideCall wide.Remove r l = ask (remove (accountIn r l) (record { 0 = r .no }) (textAt r l))
 
-by-kind : (k : Kind) (r : Record) (l : List ℕ) → callOf v01 k (valuesAt v01 (fieldsOf v01 k) r l) ≡ callIn (groupOf k) r l
-by-kind kind.Advance r l = refl
-by-kind kind.Create r l = refl
-by-kind kind.Deposit r l = refl
-by-kind kind.Delete r l = refl
-by-kind kind.Undelete r l = refl
-by-kind kind.Grant r l = refl
-by-kind kind.Attenuate r l = refl
-by-kind kind.Revoke r l = refl
-by-kind kind.Open r l = refl
-by-kind kind.Stage r l = refl
-by-kind kind.Commit r l = refl
-by-kind kind.Abandon r l = refl
-by-kind kind.Remove r l = refl
-by-kind kind.Look r l = refl
-by-kind kind.Register r l = refl
-by-kind kind.Heartbeat r l = refl
+-- the call of a record of the group; at the end and at a fault there is none
+abbrev pub callIn : Group → Record → List ℕ → Option Call
+callIn group.End r l = none
+callIn (group.Stop number) r l = none
+callIn (group.Relays w) r l = some (ask (relayAsk w r))
+callIn (group.Volumes w) r l = some (ask (volumeAsk w r l))
+callIn (group.Tokens w) r l = some (ask (tokenAsk w r l))
+callIn (group.Slot w) r l = some (onSlot (r .slot) (slotWork w r l))
+callIn group.Look r l = some (ask (lookAsk r l))
+callIn (group.Wide w) r l = some (wideCall w r l)
 
--- is the call that the record stands for
-pub call-in-group : (r : Record) (l : List ℕ) → callAt v01 r l ≡ callIn (groupOf (r .kind)) r l
-call-in-group r l = by-kind (r .kind) r l
+-- a record stands there
+abbrev pub isRecord : Group → Bool
+isRecord group.End = false
+isRecord (group.Stop number) = false
+isRecord (group.Relays w) = true
+isRecord (group.Volumes w) = true
+isRecord (group.Tokens w) = true
+isRecord (group.Slot w) = true
+isRecord group.Look = true
+isRecord (group.Wide w) = true
+
+-- ---- what stands at a place
+
+-- by what stands next there
+abbrev pub itemOf : ℕ → Next → Item
+itemOf p End = record { group = group.End; fields = blank kind.Advance; after = p }
+itemOf p (Stop number) = record { group = group.Stop number; fields = blank kind.Advance; after = p }
+itemOf p (Whole r n) = record { group = groupOf (r .kind); fields = r; after = p + n }
+
+-- x is what stands at the place p of the records l
+pub record StandsAt (l : List ℕ) (p : ℕ) (x : Item) : Type 0 where
+  pub same : x ≡ itemOf p (nextIn v01 (drop p l))
+
+-- b has the bytes of the record there, which ends before `after`: those after its length
+pub record BodyAt (l : List ℕ) (p after : ℕ) (b : List ℕ) : Type 0 where
+  pub same : b ≡ take (after - (p + 2)) (drop (p + 2) l)

@@ -8,6 +8,7 @@ use Rattle.lists.specs.Bytes.{bytes}
 use Rattle.amount.specs.Amount.{space}
 use Rattle.amount.specs.Digits.{decimal}
 use Rattle.amount.specs.DecimalLaws.{decimal-length}
+use Rattle.rules.specs.declared.Answer.{Answer}
 use Rattle.journal.specs.Journal.{end, stop}
 use Rattle.transcripts.specs.Transcript.{newline, numeral, recordLine, lastLine}
 
@@ -26,11 +27,11 @@ unfolding numeral
 numeral-length n mark = length-append (decimal n) (mark ∷ [])
 
 -- the line of a record, and the two last lines
-pub line-most : (place number value : ℕ) → place < 10 ^ 5 → number < 100 → value < 2 ^ 64 → length (recordLine place number value) ≤ 30
+pub line-most : (place : ℕ) (a : Answer) → place < 10 ^ 5 → a .number < 100 → a .value < 2 ^ 64 → length (recordLine place a) ≤ 30
 unfolding recordLine
-line-most p n v hp hn hv =
-    rw (length-append (numeral p space ++ numeral n space) (numeral v newline), length-append (numeral p space) (numeral n space), numeral-length p space, numeral-length n space, numeral-length v newline)
-    (omega (arith, digits-5 p hp, digits-2 n hn, digits-20 v hv))
+line-most p a hp hn hv =
+    rw (length-append (numeral p space ++ numeral (a .number) space) (numeral (a .value) newline), length-append (numeral p space) (numeral (a .number) space), numeral-length p space, numeral-length (a .number) space, numeral-length (a .value) newline)
+    (omega (arith, digits-5 p hp, digits-2 (a .number) hn, digits-20 (a .value) hv))
 
 pub stop-most : (read number : ℕ) → read < 10 ^ 5 → number < 100 → length (lastLine read (stop number)) ≤ 14
 unfolding lastLine

@@ -4,16 +4,14 @@ use mathlib.Core.Bool.{Bool, true, false, cond}
 use mathlib.Core.List.{List, [], _∷_, _++_}
 use mathlib.Core.Option.{Option, none, some}
 use Prim.Native.Nat.{ℕ, zero, suc, _+_, _*_, _^_, _<_, _≤_, min}
-use native.Mathlib.Nat.{min-eq-left, min-eq-right}
+use native.Mathlib.Nat.{min-eq-left}
 use native.Mathlib.Omega.{arith}
-use borrow.Author.Tests.{ltb-true, ltb-false}
-use lib.Dec.{eqb, ltb, lit<, lit≤}
+use borrow.Author.Tests.{ltb-false}
+use lib.Dec.{eqb, ltb, lit<}
 use lib.Pow.{areBytes}
 use lib.ListN.{length, length-append}
 use Rattle.lists.specs.BoolLaws.{and-right}
 use Rattle.lists.specs.Bytes.{bytes}
-use Rattle.amount.specs.Amount.{space}
-use Rattle.amount.specs.Digits.{decimal}
 use Rattle.rules.specs.declared.Desk.{Desk}
 use Rattle.rules.specs.Fresh.{freshDesk}
 use Rattle.rules.specs.Calls.{Call, step, rule}
@@ -22,13 +20,13 @@ use Rattle.rules.specs.Laws.Reached.{call-keeps}
 use Rattle.rules.specs.Laws.FreshSound.{fresh-holds}
 use Rattle.journal.specs.Numbers.{bytesOf}
 use Rattle.journal.specs.NumberLaws.{length-bytesOf}
-use Rattle.journal.specs.Fields.{Decoded, nothing, found, text, encode, decode}
+use Rattle.journal.specs.Fields.{Decoded, nothing, found, text, encode}
 use Rattle.journal.specs.FieldLaws.{decode-taken}
-use Rattle.journal.specs.Records.{Version, v01, parse, readRecord}
+use Rattle.journal.specs.Records.{v01, parse, readRecord}
 use Rattle.journal.specs.Places.{RECORD}
-use Rattle.journal.specs.Journal.{journalMost, TOO-LARGE, VERSION, Ending, end, stop, Contents, framed, stopped, ended, after, onCall, onFrame, recordsIn, records, versionNumbered, onVersion, versioned, contents}
+use Rattle.journal.specs.Journal.{journalMost, TOO-LARGE, VERSION, framed, stopped, after, onCall, onFrame, recordsIn, records, onVersion, versioned, contents}
 use Rattle.journal.specs.JournalLaws.{records-step}
-use Rattle.transcripts.specs.Transcript.{newline, numeral, firstLine, recordLine, lastLine, programRate, printed, transcript}
+use Rattle.transcripts.specs.Transcript.{firstLine, recordLine, programRate, printed, transcript}
 use Rattle.transcripts.specs.TranscriptLaws.{printedFrom, from-start, from-call, from-stop, from-end}
 use Rattle.transcripts.specs.LineLaws.{line-most, stop-most, end-most}
 use Rattle.transcripts.specs.SmallAnswers.{Small, small-answer}
@@ -45,11 +43,11 @@ unfolding readRecord parse
 some-body [] c e = absurd (let z : _≡_ {A = ℕ} 0 1 = cc in omega arith)
 some-body (b ∷ l) c e = omega arith
 
-record Apart (l body rest : List ℕ) : Type 0 where
-  size : length l ≡ 2 + length body + length rest
-  bytes : areBytes rest ≡ true
+pub record Apart (l body rest : List ℕ) : Type 0 where
+  pub size : length l ≡ 2 + length body + length rest
+  pub bytes : areBytes rest ≡ true
 
-apart : (l body rest : List ℕ) → areBytes l ≡ true → framed l ≡ found body rest → Apart l body rest
+pub apart : (l body rest : List ℕ) → areBytes l ≡ true → framed l ≡ found body rest → Apart l body rest
 unfolding encode
 apart l body rest h e =
     let t = decode-taken (text 2 65535) l body rest h e in
@@ -83,8 +81,8 @@ module _ (l : List ℕ) (h : areBytes l ≡ true) (n : ℕ) (d : Desk) (i : Desk
       let a = apart l body rest h e in
       let w = some-body body c r in
       let z : Small (step c d .answer) = rw (answered c d i) (small-answer c d (i .passes)) in
-      let line = recordLine (n + 1) (step c d .answer .number) (step c d .answer .value) in
-      let p = line-most (n + 1) (step c d .answer .number) (step c d .answer .value) (omega (arith, a .size)) (z .number) (z .value) in
+      let line = recordLine (n + 1) (step c d .answer) in
+      let p = line-most (n + 1) (step c d .answer) (omega (arith, a .size)) (z .number) (z .value) in
       let q = others rest (omega (arith, a .size)) (a .bytes) (n + 1) (step c d .desk) (call-keeps c d i) (omega (arith, a .size)) in
       rw (from-call n d c (records v01 rest), length-append line (printedFrom (n + 1) (step c d .desk) (records v01 rest))) (omega (arith, a .size, p, q))
 

@@ -23,13 +23,13 @@ abbrev pub firstLine : List ℕ
 firstLine = bytes "desk 1" ++ (newline ∷ [])
 
 -- "then per record its place from 1, answer and value"; look's hash is not printed
-unfoldable pub recordLine : ℕ → ℕ → ℕ → List ℕ
-recordLine place number value = numeral place space ++ numeral number space ++ numeral value newline
+unfoldable pub recordLine : ℕ → Answer → List ℕ
+recordLine place a = numeral place space ++ numeral (a .number) space ++ numeral (a .value) newline
 
 -- the lines of records from a place on, by their answers
 unfoldable pub recordLines : ℕ → List Answer → List ℕ
 recordLines place [] = []
-recordLines place (a ∷ more) = recordLine place (a .number) (a .value) ++ recordLines (place + 1) more
+recordLines place (a ∷ more) = recordLine place a ++ recordLines (place + 1) more
 
 -- "Its last line is either, at a fault, "stop", whole records read before it and the number, or else "end" and records read."
 unfoldable pub lastLine : ℕ → Ending → List ℕ

@@ -3,20 +3,18 @@ ghost use mathlib.Core.Path.{_≡_};
 ghost use Prim.Native.Nat.{_<_};
 ghost use lib.ListN.{getD};
 ghost use Rattle.rules.specs.Fresh.{freshSession};
-ghost use Rattle.rules.specs.Calls.{askRule, workRule, Call, rule};
+ghost use Rattle.rules.specs.Calls.{workRule, Call};
 ghost use Rattle.sessions.specs.Parts.{onSession};
 ghost use Rattle.relays.specs.Parts.{onRelays};
-ghost use Rattle.volumes.specs.Parts.{onVolumes, onDelete};
+ghost use Rattle.volumes.specs.Parts.{onVolumes};
 ghost use Rattle.tokens.specs.Parts.{onTokens, unchanged};
-ghost use Rattle.entries.specs.Parts.{onRemove};
-ghost use Rattle.transcripts.specs.Groups.{relayAsk, volumeAsk, tokenAsk, deleteAsk, removeAsk, lookAsk, slotWork};
-ghost use Rattle.transcripts.specs.Parts.{deskOf, onSlots};
+ghost use Rattle.transcripts.specs.Groups.{relayAsk, volumeAsk, tokenAsk, lookAsk, slotWork};
+ghost use Rattle.transcripts.specs.Parts.{deskOf, onSlots, Asked, Ruled};
 use super::RelayCall;
 use super::SlotCall;
 use super::SlotsOutcome;
 use super::TokenCall;
 use super::VolumeCall;
-use entries::RemoveOutcome;
 use journal::Record;
 use journal::account_of;
 use journal::hash_of;
@@ -31,11 +29,10 @@ use rules::VolumeNo;
 use rules::numbers::BAD;
 use sessions::SessionOutcome;
 use tokens::TokensOutcome;
-use volumes::DeleteOutcome;
 use volumes::VolumesOutcome;
 
 pub(crate) fn relay_call(t: Tables, which: RelayCall, r: Record) -> RelaysOutcome
-    ensures { λ o. ⌜ onRelays t o ≡ askRule (relayAsk which r) t ⌝ }
+    ensures { λ o. ⌜ Asked (onRelays t o) (relayAsk which r) t ⌝ }
 {
     match which {
         RelayCall::Register => relays::register_on(t, r.amount),
@@ -44,7 +41,7 @@ pub(crate) fn relay_call(t: Tables, which: RelayCall, r: Record) -> RelaysOutcom
 }
 
 pub(crate) fn volume_call(t: Tables, which: VolumeCall, r: Record, body: &[u8]) -> VolumesOutcome
-    ensures { λ o. ⌜ onVolumes t o ≡ askRule (volumeAsk which r (now (body .entry))) t ⌝ }
+    ensures { λ o. ⌜ Asked (onVolumes t o) (volumeAsk which r (now (body .entry))) t ⌝ }
 {
     let cap = r.cap;
     match which {
@@ -58,7 +55,7 @@ pub(crate) fn volume_call(t: Tables, which: VolumeCall, r: Record, body: &[u8]) 
 }
 
 pub(crate) fn token_call(t: Tables, which: TokenCall, r: Record, body: &[u8]) -> TokensOutcome
-    ensures { λ o. ⌜ onTokens t o ≡ askRule (tokenAsk which r (now (body .entry))) t ⌝ }
+    ensures { λ o. ⌜ Asked (onTokens t o) (tokenAsk which r (now (body .entry))) t ⌝ }
 {
     let n = r.no;
     let mode = r.mode;
@@ -67,26 +64,21 @@ pub(crate) fn token_call(t: Tables, which: TokenCall, r: Record, body: &[u8]) ->
     let text = text_of(body, r);
     match which {
         TokenCall::Grant => tokens::grant_on(t, a, VolumeNo(n), text, mode, cap, r.from, r.until),
-        TokenCall::Attenuate => tokens::attenuate_on(t, TokenNo(n), text, mode, cap, r.from, r.until),
+        TokenCall::Attenuate => tokens::attenuate_on(
+            t,
+            TokenNo(n),
+            text,
+            mode,
+            cap,
+            r.from,
+            r.until,
+        ),
         TokenCall::Revoke => tokens::revoke_on(t, a, TokenNo(n)),
     }
 }
 
-pub(crate) fn delete_call(t: Tables, r: Record, body: &[u8]) -> DeleteOutcome
-    ensures { λ o. ⌜ onDelete t o ≡ askRule (deleteAsk r (now (body .entry))) t ⌝ }
-{
-    volumes::delete_on(t, account_of(body, r), VolumeNo(r.no))
-}
-
-pub(crate) fn remove_call(t: Tables, r: Record, body: &[u8]) -> RemoveOutcome
-    ensures { λ o. ⌜ onRemove t o ≡ askRule (removeAsk r (now (body .entry))) t ⌝ }
-{
-    let a = account_of(body, r);
-    entries::remove_on(t, a, VolumeNo(r.no), text_of(body, r))
-}
-
 pub(crate) fn look_call(t: Tables, r: Record, body: &[u8]) -> Answer
-    ensures { λ a. ⌜ unchanged t a ≡ askRule (lookAsk r (now (body .entry))) t ⌝ }
+    ensures { λ a. ⌜ Asked (unchanged t a) (lookAsk r (now (body .entry))) t ⌝ }
 {
     tokens::look_on(t, TokenNo(r.no), text_of(body, r))
 }
@@ -119,7 +111,7 @@ pub(crate) fn slot_call(
     r: Record,
     body: &[u8],
 ) -> SlotsOutcome
-    ensures { λ o. ⌜ onSlots t o ≡ rule (Call.onSlot (r .slot) (slotWork which r (now (body .entry)))) (deskOf t slots) ⌝ }
+    ensures { λ o. ⌜ Ruled (onSlots t o) (Call.onSlot (r .slot) (slotWork which r (now (body .entry)))) (deskOf t slots) ⌝ }
 {
     if 4 <= r.slot {
         let answer = rules::refusal(BAD);

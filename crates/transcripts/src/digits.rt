@@ -3,7 +3,7 @@ ghost use mathlib.Core.Path.{_≡_};
 ghost use Prim.Native.Nat.{_+_, _≤_};
 ghost use lib.ListN.{length};
 ghost use Rattle.amount.specs.Digits.{decimal};
-ghost use Rattle.journal.specs.Writes.{over};
+ghost use Rattle.transcripts.specs.Written.{Wrote};
 
 // How many digits a number has.
 fn digit_count(n: u64) -> usize
@@ -21,7 +21,7 @@ fn digit_count(n: u64) -> usize
 // The digits of a number from a place on, the last digit first; the place after them.
 pub(crate) fn put_decimal(out: &mut [u8], at: usize, n: u64) -> usize
     requires { ⌜ at + length (decimal n) ≤ length (now out) ⌝ }
-    ensures { λ r. ⌜ (r ≡ at + length (decimal n)) × (now (out .exit) ≡ over at (decimal n) (now (out .entry))) ⌝ }
+    ensures { λ r. ⌜ Wrote at (decimal n) (now (out .entry)) r (now (out .exit)) ⌝ }
 {
     let end = at + digit_count(n);
     let mut i = end;

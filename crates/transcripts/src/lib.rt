@@ -1,14 +1,19 @@
-// What the program prints for a journal: specs/Transcript says it. groups.rt and carry.rt carry the records out, lines.rt writes
-// the lines.
+// What the program prints for a journal: specs/Transcript says it. items.rt takes the journal apart, carry.rt carries the
+// records out, lines.rt writes the lines, and replay.rt does it all record after record.
 mod carry;
 mod digits;
-mod groups;
+mod items;
 mod lines;
+mod replay;
+mod wide;
 
+use journal::Record;
+pub use replay::replay_into;
+pub use replay::room_for;
 use rules::Answer;
 use rules::Session;
 
-// The calls by the part of the desk that they change, for the calls that change the same.
+// The calls by the part of the desk that they change.
 pub enum RelayCall {
     Register,
     Heartbeat,
@@ -32,16 +37,31 @@ pub enum SlotCall {
     Abandon,
 }
 
+// Those that change several tables.
+pub enum WideCall {
+    Advance,
+    Delete,
+    Commit,
+    Remove,
+}
+
+// What stands at a place of a journal: its end, a fault, or the record of a call.
 pub enum Group {
+    End,
+    Stop(u32),
     Relays(RelayCall),
     Volumes(VolumeCall),
     Tokens(TokenCall),
     Slot(SlotCall),
-    Delete,
-    Remove,
     Look,
-    Commit,
-    Advance,
+    Wide(WideCall),
+}
+
+// With the record, and the place after it.
+pub struct Item {
+    pub group: Group,
+    pub fields: Record,
+    pub after: usize,
 }
 
 // What a call on a slot leaves: the four slots.

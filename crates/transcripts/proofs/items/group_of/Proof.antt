@@ -1,8 +1,8 @@
 -- `group_of` meets its contract: arm by arm. Assumes nothing.
 use borrow.Author.Needs.{needs}
-use Rattle.transcripts.proofs.CarryLaws.{kind-arm}
-use Rattle.transcripts.proofs.groups.group_of.Statement.{statement}
-use Rattle.transcripts.proofs.groups.group_of.Tie as tie
+use Rattle.transcripts.proofs.ItemAnswers.{kind-arm}
+use Rattle.transcripts.proofs.items.group_of.Statement.{statement}
+use Rattle.transcripts.proofs.items.group_of.Tie as tie
 
 pub group-of-spec : {M : Type 1} → statement M
 group-of-spec =

@@ -1,0 +1,158 @@
+-- What a replay answers, and the buffer that it leaves: the buffer is too short, the journal has a fault at its start, or its records are read.
+-- Assumes nothing.
+use mathlib.Core.Path.{_≡_, refl, sym, _∙_, ap}
+use mathlib.Core.Bool.{Bool, true, false, cond}
+use mathlib.Core.List.{List, [], _∷_, _++_}
+use Prim.Native.Nat.{ℕ, zero, suc, _+_, _-_, _*_, _<_, _≤_}
+use native.Mathlib.Nat.{zero-add, min-eq-left, min-eq-right}
+use native.Mathlib.Omega.{arith}
+use borrow.Author.Tests.{lt-ltb, le-ltb, ltb-false}
+use mir.Syntax.{w8}
+use mir.Val.{Fits}
+use lib.Dec.{ltb}
+use lib.Pow.{areBytes}
+use lib.ListN.{length, take, drop, getD, length-drop}
+use lib.Seq.{take-all}
+use Rattle.rules.specs.Fresh.{freshDesk}
+use Rattle.journal.specs.FieldLaws.{bytes-drop}
+use Rattle.journal.specs.Journal.{journalMost, TOO-LARGE, stop, stopped, records, contents, versionFault, startFault, afterStart}
+use Rattle.journal.specs.Theorems.{start-gives-the-contents}
+use Rattle.transcripts.specs.Transcript.{firstLine, lastLine, programRate, transcript}
+use Rattle.transcripts.specs.TranscriptLaws.{printedFrom, from-start, from-stop}
+use Rattle.transcripts.specs.Room.{roomFor}
+use Rattle.transcripts.specs.RoomLaws.{transcript-fits}
+use Rattle.transcripts.specs.Written.{Wrote}
+use Rattle.transcripts.specs.Replay.{answerOf, bufferOf}
+use Rattle.transcripts.proofs.OverLaws.{room-next, wrote-next}
+use Rattle.transcripts.proofs.ReplayLaws.{wholeOf}
+
+-- ---- the room that is stated
+
+pub room-large : (n : ℕ) → journalMost < n → 21 + 10 * journalMost ≡ roomFor n
+unfolding roomFor
+room-large n h = let k : journalMost ≤ n = omega arith in rw (min-eq-right k)
+
+pub room-small : (n : ℕ) → n ≤ journalMost → 21 + 10 * n ≡ roomFor n
+unfolding roomFor
+room-small n h = rw (min-eq-left h)
+
+least-room : (n : ℕ) → 21 ≤ roomFor n
+unfolding roomFor
+least-room n = omega arith
+
+-- ---- the journal's start
+
+-- a list whose elements are bytes
+bytes-known : (l : List ℕ) → ((i : ℕ) → Fits w8 (getD l i 0)) → areBytes l ≡ true
+bytes-known [] b = refl
+bytes-known (x ∷ l) b = rw (lt-ltb x 256 (b zero .fits)) (bytes-known l (λ i. b (suc i)))
+
+faulty : (l : List ℕ) (f : ℕ) → (f ≡ 0 → ⊥) → afterStart f l ≡ stopped f
+faulty l zero n = absurd (n refl)
+faulty l (suc f) n = refl
+
+within-most : (l : List ℕ) → startFault l ≡ 0 → length l ≤ journalMost
+unfolding startFault
+within-most l e = by (ltb journalMost (length l)) refl e
+  where
+    by : (t : Bool) → ltb journalMost (length l) ≡ t → cond t TOO-LARGE (versionFault l) ≡ 0 → length l ≤ journalMost
+    by true f g = absurd (omega (arith, g))
+    by false f g = ltb-false journalMost (length l) f
+
+pub some-there : (l : List ℕ) (f : ℕ) → f ≡ startFault l → f ≡ 0 → 1 ≤ length l
+unfolding startFault
+some-there [] f e z = absurd (omega (arith, sym e ∙ z))
+some-there (b ∷ l) f e z = omega arith
+
+-- the bytes after the version, as the code has them
+abbrev pub onRecords : List ℕ → List ℕ
+onRecords l = take (length l - 1) (drop 1 l)
+
+all-records : (l : List ℕ) → onRecords l ≡ drop 1 l
+all-records l = take-all (length l - 1) (drop 1 l) (omega (arith, length-drop 1 l))
+
+-- ---- the answers
+
+abbrev restOf : List ℕ → List ℕ
+restOf l = printedFrom 0 (freshDesk programRate) (contents l)
+
+module _ (l out₀ : List ℕ) (room : ℕ) (er : room ≡ roomFor (length l)) where
+  pub short-answer : length out₀ < room → record { number = 12; len = 0 } ≡ answerOf l out₀
+  unfolding answerOf
+  short-answer h = rw (← er, lt-ltb (length out₀) room h)
+
+  pub short-buffer : length out₀ < room → out₀ ≡ bufferOf l out₀
+  unfolding bufferOf
+  short-buffer h = rw (← er, lt-ltb (length out₀) room h)
+
+  module _ (h : room ≤ length out₀) where
+    pub first-room : 0 + length firstLine ≤ length out₀
+    first-room = omega (arith, least-room (length l))
+
+    -- the whole transcript stands at the front
+    module _ (len : ℕ) (out : List ℕ) (w : Wrote 0 (transcript l) out₀ len out) where
+      done-answer : record { number = 0; len = len } ≡ answerOf l out₀
+      unfolding answerOf
+      done-answer = let e : len ≡ length (transcript l) = w .place ∙ zero-add (length (transcript l)) in rw (← er, le-ltb (length out₀) room h, e)
+
+      done-buffer : out ≡ bufferOf l out₀
+      unfolding bufferOf
+      done-buffer = w .buffer ∙ rw (← er, le-ltb (length out₀) room h, zero-add (length (transcript l)))
+
+    -- the first line was written, and the rest is left
+    module _ (b : (i : ℕ) → Fits w8 (getD l i 0)) (at : ℕ) (m : List ℕ) (w : Wrote 0 firstLine out₀ at m) where
+      parted : transcript l ≡ firstLine ++ restOf l
+      unfolding transcript
+      parted = from-start (contents l)
+
+      both-room : 0 + length (firstLine ++ restOf l) ≤ length out₀
+      both-room = omega (arith, ap length parted, transcript-fits l (bytes-known l b))
+
+      rest-room : at + length (restOf l) ≤ length m
+      rest-room = room-next 0 firstLine (restOf l) out₀ at m w both-room
+
+      rest-wrote : (len : ℕ) (out : List ℕ) → Wrote at (restOf l) m len out → Wrote 0 (transcript l) out₀ len out
+      rest-wrote len out v = rw parted (wrote-next 0 firstLine (restOf l) out₀ at m w both-room len out v)
+
+      -- f is the fault at the start
+      module _ (f : ℕ) (ef : f ≡ startFault l) where
+        module _ (n : f ≡ 0 → ⊥) where
+          rest-stops : restOf l ≡ lastLine 0 (stop f)
+          rest-stops =
+              ap (printedFrom 0 (freshDesk programRate)) (start-gives-the-contents l ∙ rw (← ef) (faulty l f n)) ∙ from-stop 0 (freshDesk programRate) f
+
+          pub fault-room : at + length (lastLine 0 (stop f)) ≤ length m
+          fault-room = rw (← rest-stops) rest-room
+
+          module _ (len : ℕ) (out : List ℕ) (v : Wrote at (lastLine 0 (stop f)) m len out) where
+            pub fault-answer : record { number = 0; len = len } ≡ answerOf l out₀
+            fault-answer = done-answer len out (rest-wrote len out (rw rest-stops v))
+
+            pub fault-buffer : out ≡ bufferOf l out₀
+            fault-buffer = done-buffer len out (rest-wrote len out (rw rest-stops v))
+
+        module _ (z : f ≡ 0) where
+          rest-reads : restOf l ≡ wholeOf (onRecords l)
+          rest-reads = ap (printedFrom 0 (freshDesk programRate)) (start-gives-the-contents l ∙ rw (← ef, z, all-records l))
+
+          pub records-bytes : areBytes (onRecords l) ≡ true
+          records-bytes = rw (all-records l) (bytes-drop 1 l (bytes-known l b))
+
+          pub records-few : length (onRecords l) < 65536
+          records-few = rw (all-records l) (omega (arith, length-drop 1 l, within-most l (sym ef ∙ z)))
+
+          pub records-room : at + length (wholeOf (onRecords l)) ≤ length m
+          records-room = rw (← rest-reads) rest-room
+
+          module _ (len : ℕ) (out : List ℕ) (v : Wrote at (wholeOf (onRecords l)) m len out) where
+            pub read-answer : record { number = 0; len = len } ≡ answerOf l out₀
+            read-answer = done-answer len out (rest-wrote len out (rw rest-reads v))
+
+            pub read-buffer : out ≡ bufferOf l out₀
+            read-buffer = done-buffer len out (rest-wrote len out (rw rest-reads v))
+
+pub ruleset short = (short-answer, short-buffer)
+
+pub ruleset fault = (fault-room, fault-answer, fault-buffer)
+
+pub ruleset read = (records-bytes, records-few, records-room, read-answer, read-buffer)

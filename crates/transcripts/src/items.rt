@@ -1,0 +1,113 @@
+// A journal taken apart: what stands at a place, and the bytes of the record there.
+ghost use mathlib.Core.Path.{_≡_};
+ghost use mathlib.Core.Bool.{true};
+ghost use Prim.Native.Nat.{_≤_};
+ghost use lib.ListN.{length};
+ghost use lib.Pow.{areBytes};
+ghost use Rattle.journal.specs.declared.Kind.{Kind};
+ghost use Rattle.journal.specs.Places.{blank};
+ghost use Rattle.transcripts.specs.Groups.{groupOf, StandsAt, BodyAt};
+use super::Group;
+use super::Item;
+use super::RelayCall;
+use super::SlotCall;
+use super::TokenCall;
+use super::VolumeCall;
+use super::WideCall;
+use amount::Cap;
+use journal::Kind;
+use journal::Next;
+use journal::Record;
+use journal::next_record;
+use rules::Mode;
+
+fn group_of(kind: Kind) -> Group
+    ensures { λ r. ⌜ r ≡ groupOf kind ⌝ }
+{
+    match kind {
+        Kind::Advance => Group::Wide(WideCall::Advance),
+        Kind::Create => Group::Volumes(VolumeCall::Create),
+        Kind::Deposit => Group::Volumes(VolumeCall::Deposit),
+        Kind::Delete => Group::Wide(WideCall::Delete),
+        Kind::Undelete => Group::Volumes(VolumeCall::Undelete),
+        Kind::Grant => Group::Tokens(TokenCall::Grant),
+        Kind::Attenuate => Group::Tokens(TokenCall::Attenuate),
+        Kind::Revoke => Group::Tokens(TokenCall::Revoke),
+        Kind::Open => Group::Slot(SlotCall::Open),
+        Kind::Stage => Group::Slot(SlotCall::Stage),
+        Kind::Commit => Group::Wide(WideCall::Commit),
+        Kind::Abandon => Group::Slot(SlotCall::Abandon),
+        Kind::Remove => Group::Wide(WideCall::Remove),
+        Kind::Look => Group::Look,
+        Kind::Register => Group::Relays(RelayCall::Register),
+        Kind::Heartbeat => Group::Relays(RelayCall::Heartbeat),
+    }
+}
+
+// Where no record stands.
+fn no_record() -> Record
+    ensures { λ r. ⌜ r ≡ blank Kind.Advance ⌝ }
+{
+    Record {
+        kind: Kind::Advance,
+        account: 0,
+        no: 0,
+        slot: 0,
+        k: 0,
+        m: 0,
+        text: 0,
+        text_len: 0,
+        amount: 0,
+        hash: 0,
+        mode: Mode::Read,
+        cap: Cap::Unlimited,
+        from: 0,
+        until: 0,
+    }
+}
+
+pub(crate) fn item_at(journal: &[u8], p: usize) -> Item
+    requires { ⌜ (areBytes (now journal) ≡ true) × (p ≤ length (now journal)) ⌝ }
+    ensures { λ r. ⌜ StandsAt (now (journal .entry)) p r ⌝ }
+{
+    let next = next_record(&journal[p..]);
+    match next {
+        Next::End => {
+            let fields = no_record();
+            Item {
+                group: Group::End,
+                fields,
+                after: p,
+            }
+        }
+        Next::Stop(number) => {
+            let fields = no_record();
+            Item {
+                group: Group::Stop(number),
+                fields,
+                after: p,
+            }
+        }
+        Next::Whole(fields, len) => {
+            let kind = fields.kind;
+            let group = group_of(kind);
+            Item {
+                group,
+                fields,
+                after: p + len,
+            }
+        }
+    }
+}
+
+// The bytes of the record at a place, after its length.
+pub(crate) fn body_at(journal: &[u8], p: usize, after: usize) -> &[u8]
+    requires { ⌜ (p ≤ after) × (after ≤ length (now journal)) ⌝ }
+    ensures { λ b. ⌜ BodyAt (now (journal .entry)) p after (now b) ⌝ }
+{
+    if after - p < 2 {
+        return &journal[after..after];
+    }
+    let start = p + 2;
+    &journal[start..after]
+}
