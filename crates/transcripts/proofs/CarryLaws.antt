@@ -1,5 +1,5 @@
 -- The work of a record is the rule of its call: the arm names the call, and its fields are what the record and its bytes hold. Assumes nothing.
-use mathlib.Core.Path.{_≡_, _∙_, ap}
+use mathlib.Core.Path.{_≡_}
 use mathlib.Core.Bool.{true}
 use mathlib.Core.List.{List}
 use Prim.Native.Nat.{ℕ, _<_, _≤_}

@@ -1,6 +1,6 @@
 -- What each arm of a replay leaves is what the call of its record leaves. g is the group that the arm names, x is what its function said of the
 -- tables or the desk, and t′, slots′ and a are the tables, the slots and the answer after the arm. Assumes nothing.
-use mathlib.Core.Path.{_≡_, refl, _∙_, ap}
+use mathlib.Core.Path.{_≡_, ap}
 use mathlib.Core.Bool.{true}
 use mathlib.Core.List.{List}
 use mathlib.Core.Option.{some}

@@ -1,7 +1,7 @@
 -- What stands at a place of a journal, as the code answers it. Assumes nothing.
-use mathlib.Core.Path.{_≡_, refl, sym, _∙_, ap}
+use mathlib.Core.Path.{_≡_, sym, _∙_, ap}
 use mathlib.Core.Bool.{true}
-use mathlib.Core.List.{List, []}
+use mathlib.Core.List.{List}
 use Prim.Native.Nat.{ℕ, _+_, _-_, _^_, _<_, _≤_}
 use native.Mathlib.Omega.{arith}
 use borrow.Author.Needs.{needs}
@@ -20,7 +20,7 @@ use Rattle.journal.specs.Places.{blank}
 use Rattle.journal.specs.Journal.{nextIn}
 use Rattle.transcripts.specs.declared.Group.{Group}
 use Rattle.transcripts.specs.declared.Group.the-variants as group
-use Rattle.transcripts.specs.Groups.{groupOf, itemOf, StandsAt, BodyAt}
+use Rattle.transcripts.specs.Groups.{groupOf, StandsAt, BodyAt}
 use Rattle.transcripts.specs.NextLaws.{record-sized}
 
 -- the arm of a kind

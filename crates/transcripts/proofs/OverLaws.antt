@@ -8,7 +8,7 @@ use lib.Dec.{lit≤}
 use mir.Syntax.{w64}
 use mir.Val.{Fits}
 use lib.ListN.{length, take, drop, set, length-append, length-drop, take-append-drop}
-use lib.Seq.{append-snoc, take-set-le, set-split, drop-at, take-at, drop-drop, length-take-le, take-length, paste}
+use lib.Seq.{append-snoc, take-set-le, set-split, drop-at, take-at, drop-drop, length-take-le, take-length}
 use Rattle.lists.specs.ByteLoopLaws.{FillLoop, fill-end}
 use Rattle.journal.specs.Writes.{over}
 use Rattle.transcripts.specs.Written.{Wrote}

@@ -6,21 +6,18 @@ use mathlib.Core.List.{List, [], _∷_, _++_}
 use Prim.Native.Nat.{ℕ, zero, suc, _+_, _-_, _*_, _<_, _≤_}
 use native.Mathlib.Nat.{zero-add, min-eq-left, min-eq-right}
 use native.Mathlib.Omega.{arith}
-use borrow.Author.Needs.{needs}
 use borrow.Author.Tests.{lt-ltb, le-ltb, ltb-false}
 use mir.Syntax.{w8}
 use mir.Val.{Fits}
 use lib.Dec.{ltb}
 use lib.Pow.{areBytes}
-use lib.ListN.{length, take, drop, getD, length-drop, length-append}
+use lib.ListN.{length, take, drop, getD, length-drop}
 use lib.Seq.{take-all}
 use Rattle.rules.specs.Fresh.{freshDesk}
 use Rattle.journal.specs.FieldLaws.{bytes-drop}
-use Rattle.journal.specs.Records.{v01}
-use Rattle.journal.specs.Journal.{journalMost, TOO-LARGE, VERSION, stop, stopped, records, contents, versionFault, startFault, afterStart}
+use Rattle.journal.specs.Journal.{journalMost, TOO-LARGE, stop, stopped, records, contents, versionFault, startFault, afterStart}
 use Rattle.journal.specs.Theorems.{start-gives-the-contents}
-use Rattle.journal.specs.Writes.{over}
-use Rattle.transcripts.specs.Transcript.{firstLine, lastLine, programRate, printed, transcript}
+use Rattle.transcripts.specs.Transcript.{firstLine, lastLine, programRate, transcript}
 use Rattle.transcripts.specs.TranscriptLaws.{printedFrom, from-start, from-stop}
 use Rattle.transcripts.specs.Room.{roomFor}
 use Rattle.transcripts.specs.RoomLaws.{transcript-fits}

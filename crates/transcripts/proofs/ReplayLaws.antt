@@ -7,11 +7,10 @@ use mathlib.Core.List.{List, _++_}
 use mathlib.Core.Option.{some}
 use Prim.Native.Nat.{ℕ, _+_, _-_, _<_, _≤_}
 use native.Mathlib.Omega.{arith}
-use borrow.Author.Needs.{needs}
 use mir.Syntax.{w64}
 use mir.Val.{Fits}
 use lib.Pow.{areBytes}
-use lib.ListN.{length, take, drop, replicate, length-append}
+use lib.ListN.{length, drop, replicate, length-append}
 use Rattle.rules.specs.declared.Answer.{Answer}
 use Rattle.rules.specs.declared.Session.{Session}
 use Rattle.rules.specs.declared.Tables.{Tables}
@@ -22,7 +21,7 @@ use Rattle.rules.specs.Laws.Reached.{call-keeps}
 use Rattle.rules.specs.Laws.FreshSound.{fresh-holds}
 use Rattle.journal.specs.declared.Record.{Record}
 use Rattle.journal.specs.Records.{v01}
-use Rattle.journal.specs.Journal.{Ending, end, stop, records}
+use Rattle.journal.specs.Journal.{end, stop, records}
 use Rattle.journal.specs.Writes.{over}
 use Rattle.transcripts.specs.declared.Group.{Group}
 use Rattle.transcripts.specs.declared.Group.the-variants as group

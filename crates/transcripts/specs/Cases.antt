@@ -3,18 +3,15 @@ use mathlib.Core.Path.{_≡_, refl}
 use mathlib.Core.List.{List, [], _∷_, _++_}
 use Prim.Native.Nat.{ℕ}
 use Prim.Native.String.{String}
-use lib.ListN.{replicate}
-use Rattle.lists.specs.Bytes.{bytes, sameBytes, startsWith}
-use Rattle.lists.specs.Lists.{firstRow, allOf, anyOf, countIf, keep, sumOf, total, noClash, bitSet}
-use Rattle.text.specs.Text.{ontoFirst, parts, isPart, isPath, isPathAndSlash, isPrefix, isName}
+use Rattle.lists.specs.Bytes.{bytes}
+use Rattle.lists.specs.Lists.{firstRow, allOf, anyOf, keep, noClash}
 use Rattle.amount.specs.Digits.{decimalWithin}
 use Rattle.rules.specs.Tables.{cleared}
 use Rattle.rules.specs.Sound.{soundVolume, sameName, soundEntry, sameEntry, soundToken, soundRelay, soundSession, soundVolumes, soundEntries, soundTokens, soundRelays, soundTables, sound}
 use Rattle.rules.specs.VolumeCalls.{dropEntries}
 use Rattle.rules.specs.Relays.{lightened}
 use Rattle.rules.specs.Advance.{relaysLeave, settled, settle, isDue, isOneOf, collect, atEpoch, advanced, advanceRule}
-use Rattle.rules.specs.SessionCalls.{abandonRule}
-use Rattle.rules.specs.Calls.{askRule, workRule, rule, step, answers}
+use Rattle.rules.specs.Calls.{askRule, rule, step, answers}
 use Rattle.journal.specs.Numbers.{numberOf}
 use Rattle.journal.specs.Fields.{part, decodeNumber, decodeText, decode, decodeAll}
 use Rattle.journal.specs.Records.{kindAmong, parse, readRecord}

@@ -1,6 +1,6 @@
 -- The kinds of calls by the part of the desk that they change, the call that a record of each stands for, and what stands at a place of a
 -- journal. Assumes nothing.
-use mathlib.Core.Path.{_≡_, refl}
+use mathlib.Core.Path.{_≡_}
 use mathlib.Core.Bool.{Bool, true, false}
 use mathlib.Core.List.{List}
 use mathlib.Core.Option.{Option, none, some}
@@ -12,11 +12,11 @@ use Rattle.rules.specs.Calls.{Ask, advance, create, deposit, delete, undelete, 
 use Rattle.journal.specs.declared.Kind.{Kind}
 use Rattle.journal.specs.declared.Kind.the-variants as kind
 use Rattle.journal.specs.declared.Record.{Record}
-use Rattle.journal.specs.Records.{v01, callOf, fieldsOf}
+use Rattle.journal.specs.Records.{v01}
 use Rattle.journal.specs.declared.Next.{Next}
 use Rattle.journal.specs.declared.Next.the-variants.{End, Whole, Stop}
 use Rattle.journal.specs.Journal.{nextIn}
-use Rattle.journal.specs.Places.{blank, accountAt, textAt, hashAt, valuesAt, callAt}
+use Rattle.journal.specs.Places.{blank, accountAt, textAt, hashAt}
 use Rattle.transcripts.specs.declared.RelayCall.{RelayCall}
 use Rattle.transcripts.specs.declared.RelayCall.the-variants as relay
 use Rattle.transcripts.specs.declared.VolumeCall.{VolumeCall}
@@ -108,28 +108,6 @@ isRecord (group.Tokens w) = true
 isRecord (group.Slot w) = true
 isRecord group.Look = true
 isRecord (group.Wide w) = true
-
-by-kind : (k : Kind) (r : Record) (l : List ℕ) → some (callOf v01 k (valuesAt v01 (fieldsOf v01 k) r l)) ≡ callIn (groupOf k) r l
-by-kind kind.Advance r l = refl
-by-kind kind.Create r l = refl
-by-kind kind.Deposit r l = refl
-by-kind kind.Delete r l = refl
-by-kind kind.Undelete r l = refl
-by-kind kind.Grant r l = refl
-by-kind kind.Attenuate r l = refl
-by-kind kind.Revoke r l = refl
-by-kind kind.Open r l = refl
-by-kind kind.Stage r l = refl
-by-kind kind.Commit r l = refl
-by-kind kind.Abandon r l = refl
-by-kind kind.Remove r l = refl
-by-kind kind.Look r l = refl
-by-kind kind.Register r l = refl
-by-kind kind.Heartbeat r l = refl
-
--- it is the call that the record stands for
-pub call-in-group : (r : Record) (l : List ℕ) → some (callAt v01 r l) ≡ callIn (groupOf (r .kind)) r l
-call-in-group r l = by-kind (r .kind) r l
 
 -- ---- what stands at a place
 

@@ -1,27 +1,51 @@
 -- What stands at a place of a journal, as the code is told it: where it ends, what is still to be printed there, and the call of a record. Assumes
 -- nothing.
-use mathlib.Core.Path.{_≡_, refl, sym, _∙_, ap}
+use mathlib.Core.Path.{_≡_, refl, _∙_, ap}
 use mathlib.Core.Bool.{true, false≢true}
 use mathlib.Core.List.{List, [], _++_}
-use mathlib.Core.Option.{Option, none, some}
-use Prim.Native.Nat.{ℕ, _+_, _<_, _≤_}
+use mathlib.Core.Option.{none, some}
+use Prim.Native.Nat.{ℕ, _+_, _≤_}
 use native.Mathlib.Omega.{arith}
 use lib.Pow.{areBytes}
 use lib.ListN.{length, drop, length-drop}
 use Rattle.rules.specs.declared.Desk.{Desk}
 use Rattle.rules.specs.Calls.{Call, step}
+use Rattle.journal.specs.declared.Kind.{Kind}
+use Rattle.journal.specs.declared.Kind.the-variants as kind
 use Rattle.journal.specs.declared.Record.{Record}
 use Rattle.journal.specs.declared.Next.{Next}
 use Rattle.journal.specs.declared.Next.the-variants.{End, Whole, Stop}
-use Rattle.journal.specs.Records.{v01}
-use Rattle.journal.specs.Places.{callAt}
-use Rattle.journal.specs.Journal.{Ending, end, stop, records, nextIn}
+use Rattle.journal.specs.Records.{v01, callOf, fieldsOf}
+use Rattle.journal.specs.Places.{valuesAt, callAt}
+use Rattle.journal.specs.Journal.{end, stop, records, nextIn}
 use Rattle.transcripts.specs.declared.Item.{Item}
 use Rattle.transcripts.specs.declared.Group.the-variants as group
 use Rattle.transcripts.specs.Transcript.{recordLine, lastLine}
 use Rattle.transcripts.specs.TranscriptLaws.{printedFrom}
-use Rattle.transcripts.specs.NextLaws.{Sized, bodyAt, left-at-end, left-at-stop, left-at-record, record-sized}
-use Rattle.transcripts.specs.Groups.{groupOf, isRecord, callIn, call-in-group, itemOf}
+use Rattle.transcripts.specs.NextLaws.{bodyAt, left-at-end, left-at-stop, left-at-record, record-sized}
+use Rattle.transcripts.specs.Groups.{groupOf, isRecord, callIn, itemOf}
+
+-- the call of a record's group is the call that the record stands for
+by-kind : (k : Kind) (r : Record) (l : List ℕ) → some (callOf v01 k (valuesAt v01 (fieldsOf v01 k) r l)) ≡ callIn (groupOf k) r l
+by-kind kind.Advance r l = refl
+by-kind kind.Create r l = refl
+by-kind kind.Deposit r l = refl
+by-kind kind.Delete r l = refl
+by-kind kind.Undelete r l = refl
+by-kind kind.Grant r l = refl
+by-kind kind.Attenuate r l = refl
+by-kind kind.Revoke r l = refl
+by-kind kind.Open r l = refl
+by-kind kind.Stage r l = refl
+by-kind kind.Commit r l = refl
+by-kind kind.Abandon r l = refl
+by-kind kind.Remove r l = refl
+by-kind kind.Look r l = refl
+by-kind kind.Register r l = refl
+by-kind kind.Heartbeat r l = refl
+
+pub call-in-group : (r : Record) (l : List ℕ) → some (callAt v01 r l) ≡ callIn (groupOf (r .kind)) r l
+call-in-group r l = by-kind (r .kind) r l
 
 -- the place after it
 pub record Within (l : List ℕ) (p after : ℕ) : Type 0 where

@@ -1,11 +1,11 @@
 -- What stands next in the records of a journal, as the code is told it: the end, a fault, or a whole record with so many bytes. Assumes nothing.
-use mathlib.Core.Path.{_≡_, refl, sym, _∙_, ap}
+use mathlib.Core.Path.{_≡_, refl, _∙_, ap}
 use mathlib.Core.Bool.{true}
 use mathlib.Core.List.{List, [], _∷_, _++_}
-use Prim.Native.Nat.{ℕ, _+_, _-_, _<_, _≤_}
+use Prim.Native.Nat.{ℕ, _+_, _-_, _≤_}
 use native.Mathlib.Omega.{arith}
 use lib.Pow.{areBytes}
-use lib.ListN.{length, take, drop, length-drop}
+use lib.ListN.{length, take, drop}
 use lib.Seq.{drop-drop}
 use Rattle.rules.specs.declared.Desk.{Desk}
 use Rattle.rules.specs.Calls.{step}
@@ -18,11 +18,11 @@ use Rattle.journal.specs.Fields.{Decoded, nothing, found}
 use Rattle.journal.specs.FieldLaws.{bytes-drop}
 use Rattle.journal.specs.Records.{v01, parse}
 use Rattle.journal.specs.Places.{readAt, callAt}
-use Rattle.journal.specs.Journal.{Ending, end, stop, Contents, stopped, ended, after, framed, records, onReading, onBody, nextIn, afterNext}
+use Rattle.journal.specs.Journal.{end, stop, after, framed, records, onReading, onBody, nextIn, afterNext}
 use Rattle.journal.specs.Theorems.{next-gives-the-contents}
 use Rattle.transcripts.specs.Transcript.{recordLine, lastLine}
 use Rattle.transcripts.specs.TranscriptLaws.{printedFrom, from-call, from-stop, from-end}
-use Rattle.transcripts.specs.RoomLaws.{Apart, apart}
+use Rattle.transcripts.specs.RoomLaws.{apart}
 
 -- a whole record has 3 bytes or more with its length, and they are there
 pub record Sized (l : List ℕ) (n : ℕ) : Type 0 where

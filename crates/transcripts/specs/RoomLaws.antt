@@ -4,16 +4,14 @@ use mathlib.Core.Bool.{Bool, true, false, cond}
 use mathlib.Core.List.{List, [], _∷_, _++_}
 use mathlib.Core.Option.{Option, none, some}
 use Prim.Native.Nat.{ℕ, zero, suc, _+_, _*_, _^_, _<_, _≤_, min}
-use native.Mathlib.Nat.{min-eq-left, min-eq-right}
+use native.Mathlib.Nat.{min-eq-left}
 use native.Mathlib.Omega.{arith}
-use borrow.Author.Tests.{ltb-true, ltb-false}
-use lib.Dec.{eqb, ltb, lit<, lit≤}
+use borrow.Author.Tests.{ltb-false}
+use lib.Dec.{eqb, ltb, lit<}
 use lib.Pow.{areBytes}
 use lib.ListN.{length, length-append}
 use Rattle.lists.specs.BoolLaws.{and-right}
 use Rattle.lists.specs.Bytes.{bytes}
-use Rattle.amount.specs.Amount.{space}
-use Rattle.amount.specs.Digits.{decimal}
 use Rattle.rules.specs.declared.Desk.{Desk}
 use Rattle.rules.specs.Fresh.{freshDesk}
 use Rattle.rules.specs.Calls.{Call, step, rule}
@@ -22,13 +20,13 @@ use Rattle.rules.specs.Laws.Reached.{call-keeps}
 use Rattle.rules.specs.Laws.FreshSound.{fresh-holds}
 use Rattle.journal.specs.Numbers.{bytesOf}
 use Rattle.journal.specs.NumberLaws.{length-bytesOf}
-use Rattle.journal.specs.Fields.{Decoded, nothing, found, text, encode, decode}
+use Rattle.journal.specs.Fields.{Decoded, nothing, found, text, encode}
 use Rattle.journal.specs.FieldLaws.{decode-taken}
-use Rattle.journal.specs.Records.{Version, v01, parse, readRecord}
+use Rattle.journal.specs.Records.{v01, parse, readRecord}
 use Rattle.journal.specs.Places.{RECORD}
-use Rattle.journal.specs.Journal.{journalMost, TOO-LARGE, VERSION, Ending, end, stop, Contents, framed, stopped, ended, after, onCall, onFrame, recordsIn, records, versionNumbered, onVersion, versioned, contents}
+use Rattle.journal.specs.Journal.{journalMost, TOO-LARGE, VERSION, framed, stopped, after, onCall, onFrame, recordsIn, records, onVersion, versioned, contents}
 use Rattle.journal.specs.JournalLaws.{records-step}
-use Rattle.transcripts.specs.Transcript.{newline, numeral, firstLine, recordLine, lastLine, programRate, printed, transcript}
+use Rattle.transcripts.specs.Transcript.{firstLine, recordLine, programRate, printed, transcript}
 use Rattle.transcripts.specs.TranscriptLaws.{printedFrom, from-start, from-call, from-stop, from-end}
 use Rattle.transcripts.specs.LineLaws.{line-most, stop-most, end-most}
 use Rattle.transcripts.specs.SmallAnswers.{Small, small-answer}

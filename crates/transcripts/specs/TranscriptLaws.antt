@@ -1,15 +1,14 @@
 -- A transcript line by line: what is still to be printed after some records, by what stands next in the journal. Assumes nothing.
-use mathlib.Core.Path.{_≡_, refl, sym, _∙_, ap}
-use mathlib.Core.List.{List, [], _∷_, _++_, append-assoc, append-nil}
+use mathlib.Core.Path.{_≡_, _∙_}
+use mathlib.Core.List.{List, [], _∷_, _++_, append-assoc}
 use Prim.Native.Nat.{ℕ, _+_}
 use native.Mathlib.Nat.{zero-add}
 use native.Mathlib.Omega.{arith}
 use lib.ListN.{length}
-use Rattle.rules.specs.declared.Answer.{Answer}
 use Rattle.rules.specs.declared.Desk.{Desk}
 use Rattle.rules.specs.Fresh.{freshDesk}
 use Rattle.rules.specs.Calls.{Call, step, answers}
-use Rattle.journal.specs.Journal.{Ending, end, stop, Contents, stopped, ended, after}
+use Rattle.journal.specs.Journal.{end, stop, Contents, stopped, ended, after}
 use Rattle.transcripts.specs.Transcript.{firstLine, recordLine, recordLines, lastLine, programRate, printed}
 
 -- what is still to be printed: so many records were, they left the desk d, and the rest of the journal holds c

@@ -27,7 +27,6 @@ use super::lines::put_stop_line;
 use super::wide::wide_call;
 use journal::Written;
 use journal::start_fault;
-use rules::Desk;
 use rules::numbers::ROOM;
 
 // The price of storage on the program's desk.
@@ -83,11 +82,7 @@ fn replay_records(journal: &[u8], out: &mut [u8], start: usize) -> usize
             }
             Group::Look => look_call(t, r, body),
             Group::Wide(which) => {
-                let d = Desk {
-                    tables: t,
-                    sessions: slots,
-                };
-                let o = wide_call(d, which, r, body);
+                let o = wide_call(t, slots, which, r, body);
                 let desk = o.desk;
                 let tables = desk.tables;
                 let sessions = desk.sessions;

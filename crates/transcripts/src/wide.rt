@@ -1,10 +1,9 @@
 // The calls that change several tables, on the whole desk. The desk is one that calls reach, as every desk of a replay is: there the
 // work of an advance and of a commit is their rule.
-ghost use mathlib.Core.Path.{_≡_};
 ghost use Rattle.rules.specs.Calls.{Work, Call};
 ghost use Rattle.rules.specs.Laws.StaysSound.{DeskInvariant};
 ghost use Rattle.transcripts.specs.Groups.{wideCall};
-ghost use Rattle.transcripts.specs.Parts.{Ruled};
+ghost use Rattle.transcripts.specs.Parts.{deskOf, Ruled};
 use super::WideCall;
 use commits::commit_on;
 use entries::remove_on;
@@ -20,6 +19,8 @@ use parts::with_delete;
 use parts::with_remove;
 use rules::Desk;
 use rules::Outcome;
+use rules::Session;
+use rules::Tables;
 use rules::VolumeNo;
 use rules::numbers::BAD;
 use volumes::delete_on;
@@ -37,11 +38,20 @@ fn commit_call(d: Desk, slot: u8) -> Outcome
     with_commit(d, i, commit_on(t, s))
 }
 
-pub(crate) fn wide_call(d: Desk, which: WideCall, r: Record, body: &[u8]) -> Outcome
-    requires { ⌜ DeskInvariant d ⌝ }
-    ensures { λ o. ⌜ Ruled o (wideCall which r (now (body .entry))) d ⌝ }
+pub(crate) fn wide_call(
+    t: Tables,
+    slots: [Session; 4],
+    which: WideCall,
+    r: Record,
+    body: &[u8],
+) -> Outcome
+    requires { ⌜ DeskInvariant (deskOf t slots) ⌝ }
+    ensures { λ o. ⌜ Ruled o (wideCall which r (now (body .entry))) (deskOf t slots) ⌝ }
 {
-    let t = d.tables;
+    let d = Desk {
+        tables: t,
+        sessions: slots,
+    };
     match which {
         WideCall::Advance => with_advance(d, advance_on(t, r.amount)),
         WideCall::Delete => {

@@ -1,5 +1,5 @@
 -- `session_of` meets its contract: the row of the slot. Assumes nothing.
-use Rattle.lists.specs.RowLaws.{rows-length, same-row}
+use Rattle.lists.specs.RowLaws.{same-row}
 use borrow.Author.Needs.{needs}
 use Rattle.transcripts.proofs.carry.session_of.Statement.{statement}
 use Rattle.transcripts.proofs.carry.session_of.Tie as tie
@@ -10,4 +10,4 @@ session-of-spec =
     (tie.spec
     (λ c. search needs)
     (λ c. search needs)
-    (λ c. search (same-row, rows-length, needs)))
+    (λ c. search (same-row, needs)))

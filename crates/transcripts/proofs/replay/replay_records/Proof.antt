@@ -1,4 +1,5 @@
--- `replay_records` meets its contract: record after record. Assumes nothing.
+-- `replay_records` meets its contract: what is still to be printed, over the buffer from where the replay has come, gives the whole. Each arm of the
+-- match has a line of its own where the record's line, the bytes left and the next turn are asked for. Assumes nothing.
 use mathlib.Core.Logic.{⊎-elim}
 use Prim.Native.Nat.{_-_}
 use lib.ListN.{length}
@@ -22,11 +23,11 @@ replay-records-spec =
     (λ c. search needs)
     (λ c κs. search ends)
     (λ c. search needs)
-    (λ c. search ends)
+    (λ c. search ends)  -- the end
     (λ c. search needs)
     (λ c κs. search stops)
     (λ c. search needs)
-    (λ c. search stops)
+    (λ c. search stops)  -- a fault
     (λ c. search needs)
     (λ c κs. search needs)
     (λ c. search needs)
