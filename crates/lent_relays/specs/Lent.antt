@@ -1,8 +1,8 @@
 -- Document 01, "The relay table is a lent slice of relay records, 32 rows": what heartbeat and give-back answer on a table that its caller
 -- keeps, and the rows after them. Assumes nothing.
 use mathlib.Core.Bool.{Bool, _&&_, _||_, cond, not}
-use mathlib.Core.List.{List}
-use Prim.Native.Nat.{ℕ, _-_}
+use mathlib.Core.List.{List, [], _∷_}
+use Prim.Native.Nat.{ℕ, _-_, _/_, _%_}
 use lib.Dec.{eqb, leb}
 use lib.ListN.{length}
 use Rattle.lists.specs.Lists.{Hit, miss, hit, find, allOf, noClash, modify}
@@ -57,6 +57,11 @@ backAnswer bytes n rows = cond (not (tableFits clockLimit rows)) (refusedAs BAD)
 -- a relay after one shard of so many bytes was given back, neither count below 0
 abbrev pub lighter : Relay → ℕ → Relay
 lighter r bytes = withRoom r (r .used - bytes) (r .held - 1)
+
+-- the rows of a set, one bit for each, the first row's lowest: each of them after one shard of so many bytes was given back to it
+unfoldable pub lighterIn : ℕ → ℕ → List Relay → List Relay
+lighterIn set bytes [] = []
+lighterIn set bytes (r ∷ rs) = cond (eqb (set % 2) 1) (lighter r bytes) r ∷ lighterIn (set / 2) bytes rs
 
 -- the rows after a call with this answer: "A refusal gives its number .. and the desk is as before", else one row is changed
 unfoldable pub rowsAfter : (Relay → ℕ → Relay) → ℕ → RowAnswer → List Relay → List Relay

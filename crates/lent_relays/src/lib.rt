@@ -8,6 +8,7 @@ mod copies;
 mod limits;
 mod one_row;
 mod records;
+mod row_set;
 
 pub use answers::no_health;
 pub use calls::give_back;
@@ -15,6 +16,7 @@ pub use calls::heartbeat;
 pub use one_row::beat_at;
 pub use one_row::give_back_at;
 pub use records::given_back;
+pub use row_set::give_back_set;
 
 // What a call on one row answers, and the row that it changes where that is 0.
 pub(crate) struct RowAnswer {
