@@ -15,7 +15,6 @@ pub use calls::give_back;
 pub use calls::heartbeat;
 pub use one_row::beat_at;
 pub use one_row::give_back_at;
-pub use records::given_back;
 pub use row_set::give_back_set;
 
 // What a call on one row answers, and the row that it changes where that is 0.

@@ -27,7 +27,7 @@ fn less_one(a: u32) -> u32
 }
 
 // A relay after one shard of so many bytes was given back to it.
-pub fn given_back(r: Relay, bytes: u64) -> Relay
+pub(crate) fn given_back(r: Relay, bytes: u64) -> Relay
     ensures { λ x. ⌜ x ≡ lighter r bytes ⌝ }
 {
     let mut next = r;
