@@ -52,8 +52,8 @@ pub(crate) fn back_answer(bytes: u64, rows: [Relay; 32], n: RelayNo) -> RowAnswe
     if !table_fits(1099511627776, rows) {
         return refused(BAD);
     }
-    let Found::At(i) = find_relay(rows, n) else {
+    let Found::At(at) = find_relay(rows, n) else {
         return refused(NO_RELAY);
     };
-    RowAnswer { number: 0, at: i }
+    RowAnswer { number: 0, at }
 }
