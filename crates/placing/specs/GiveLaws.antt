@@ -66,7 +66,7 @@ pub map-same : {A : Type 0} (f : A → A) (l : List A) → ((x : A) → f x ≡ 
 map-same f [] e = refl
 map-same f (x ∷ xs) e = rw (e x, map-same f xs e)
 
-map-agrees : {A : Type 0} (f g : A → A) (l : List A) → ((x : A) → f x ≡ g x) → map f l ≡ map g l
+pub map-agrees : {A : Type 0} (f g : A → A) (l : List A) → ((x : A) → f x ≡ g x) → map f l ≡ map g l
 map-agrees f g [] e = refl
 map-agrees f g (x ∷ xs) e = rw (e x, map-agrees f g xs e)
 

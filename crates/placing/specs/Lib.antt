@@ -1,4 +1,5 @@
 pub mod GiveLaws
+pub mod LentGiveBack
 pub mod Order
 pub mod OrderLaws
 pub mod Put

@@ -12,6 +12,10 @@ use Rattle.rules.specs.Relays.{holdsShard, loaded}
 use Rattle.placing.specs.declared.Loaded.{Loaded}
 use Rattle.placing.specs.declared.LoadedRow.{LoadedRow}
 
+-- the relay has a shard of the placement
+abbrev pub hasShard : Placement → Relay → Bool
+hasShard p r = holdsShard (r .no) p
+
 -- a relay after an object with shards of so many bytes gave its room back: one shard less, or as it was
 unfoldable pub lightenedBy : ℕ → Placement → Relay → Relay
 lightenedBy bytes p r = cond (holdsShard (r .no) p) (withRoom r (r .used - bytes) (r .held - 1)) r

@@ -1,11 +1,12 @@
 // Room and held shards of the relays: given back for one object.
 ghost use mathlib.Core.Path.{_≡_};
 ghost use mathlib.Core.List.{[], _∷_, map};
-ghost use Prim.Native.Nat.{_-_, min};
+ghost use Prim.Native.Nat.{min};
 ghost use lib.ListN.{take};
-ghost use Rattle.lists.specs.Lists.{anyOf};
+ghost use Rattle.lists.specs.Lists.{anyOf, bitSet};
 ghost use Rattle.rules.specs.Relays.{sameRelay, holdsShard, lightened};
-ghost use Rattle.placing.specs.Room.{lightenedBy};
+ghost use Rattle.placing.specs.Room.{hasShard, lightenedBy};
+use lent_relays::give_back_set;
 use rows::shard_bytes;
 use rules::Entry;
 use rules::Placement;
@@ -44,48 +45,29 @@ pub fn holds_shard(n: RelayNo, place: Placement) -> bool
     any_place(relays, place.len, n)
 }
 
-// The difference, or 0 where there is none.
-fn less_bytes(a: u64, b: u64) -> u64
-    ensures { λ r. ⌜ r ≡ a - b ⌝ }
+// The rows that have a shard of the placement, one bit for each, the first row's lowest.
+fn held_set(rows: [Relay; 32], place: Placement) -> u32
+    ensures { λ r. ⌜ r ≡ bitSet (hasShard place) rows ⌝ }
 {
-    if a < b { 0 } else { a - b }
-}
-
-fn less_one(a: u32) -> u32
-    ensures { λ r. ⌜ r ≡ a - 1 ⌝ }
-{
-    if a == 0 { 0 } else { a - 1 }
-}
-
-// A relay after one object gave its room back.
-fn lighten(row: Relay, bytes: u64, place: Placement) -> Relay
-    ensures { λ r. ⌜ r ≡ lightenedBy bytes place row ⌝ }
-{
-    let n = row.no;
-    if !holds_shard(n, place) {
-        return row;
+    let mut set: u32 = 0;
+    let mut i: usize = 0;
+    while i < 32 {
+        let row = rows[i];
+        let n = row.no;
+        if holds_shard(n, place) {
+            set |= 1 << i;
+        }
+        i += 1;
     }
-    Relay {
-        no: n,
-        capacity: row.capacity,
-        used: less_bytes(row.used, bytes),
-        held: less_one(row.held),
-        beat: row.beat,
-    }
+    set
 }
 
 // The relays after one object with shards of so many bytes gave its room and held shards back.
 pub fn give_back_one(rows: [Relay; 32], bytes: u64, place: Placement) -> [Relay; 32]
     ensures { λ r. ⌜ r ≡ map (lightenedBy bytes place) rows ⌝ }
 {
-    let mut out = rows;
-    let mut i: usize = 0;
-    while i < 32 {
-        let row = rows[i];
-        out[i] = lighten(row, bytes, place);
-        i += 1;
-    }
-    out
+    let set = held_set(rows, place);
+    give_back_set(rows, set, bytes)
 }
 
 // The relays after one entry gave its room and held shards back. A free row gives none.

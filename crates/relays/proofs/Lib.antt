@@ -1,2 +1,1 @@
 pub mod RowAnswers
-pub mod HealthLaws

@@ -1,10 +1,16 @@
 -- What each rule on a relay answers: `X-none` where the search found no row, `X-at` at the row that it found. Assumes nothing.
+use mathlib.Core.Path.{_≡_, _∙_}
+use mathlib.Core.List.{List}
+use Prim.Native.Nat.{ℕ}
+use lib.ListN.{getD, set}
 use Rattle.lists.specs.AnswerLaws.{NoRow, AtRow, no-row, at-row}
 use Rattle.rules.specs.declared.RelayNo.{RelayNo}
 use Rattle.rules.specs.declared.Relay.{Relay}
 use Rattle.rules.specs.declared.Tables.{Tables}
-use Rattle.rules.specs.Tables.{isRelay, freeRelay}
-use Rattle.rules.specs.RelayCalls.{registerIn, heartbeatIn}
+use Rattle.rules.specs.declared.TablesOutcome.{TablesOutcome}
+use Rattle.rules.specs.Outcome.{accepted}
+use Rattle.rules.specs.Tables.{isRelay, freeRelay, withRelays, withLastRelay, withBeat}
+use Rattle.rules.specs.RelayCalls.{registerIn, heartbeatAt, heartbeatIn}
 use Rattle.rows.specs.Blank.{blankRelay}
 
 module _ (t : Tables) where
@@ -19,3 +25,8 @@ module _ (t : Tables) where
 
   pub heartbeat-at : (n : RelayNo) → AtRow (heartbeatIn t) (isRelay n) (t .relays) blankRelay
   heartbeat-at n = at-row (heartbeatIn t) _ _ _
+
+  -- success with the table that `lent_relays::beat_at` gave
+  pub beaten : (x : TablesOutcome) (v i n : ℕ) (rows : List Relay) → x ≡ accepted v (withLastRelay (withRelays t rows) n) → rows ≡ set (t .relays) i (withBeat (getD (t .relays) i blankRelay) (t .clock))
+      → n ≡ t .«last_relay» → x ≡ accepted v (heartbeatAt t i (getD (t .relays) i blankRelay))
+  beaten x v i n rows e f g = e ∙ rw (f, g)

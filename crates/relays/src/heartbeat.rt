@@ -1,45 +1,33 @@
 // Heartbeat.
 ghost use mathlib.Core.Path.{_≡_};
-ghost use Prim.Native.Nat.{_<_, _-_};
-ghost use lib.Dec.{eqb};
+ghost use Prim.Native.Nat.{_<_};
 ghost use lib.ListN.{getD};
 ghost use Rattle.lists.specs.Lists.{hit};
-ghost use Rattle.rules.specs.Limits.{fullHealth};
 ghost use Rattle.rules.specs.RelayCalls.{heartbeatRule, heartbeatIn};
 ghost use Rattle.rows.specs.Blank.{blankRelay};
 ghost use Rattle.relays.specs.Parts.{onRelays};
 use super::RelaysOutcome;
 use super::answers::accept;
 use super::answers::refuse;
+use lent_relays::no_health;
 use lists::Found;
 use rows::find_relay;
 use rules::RelayNo;
 use rules::Tables;
 use rules::numbers::NO_RELAY;
 
-// Health 0: 100 blocks or more since the last heartbeat.
-fn no_health(clock: u64, beat: u64) -> bool
-    ensures { λ r. ⌜ r ≡ eqb (fullHealth - (clock - beat)) 0 ⌝ }
-{
-    if clock < beat {
-        return false;
-    }
-    100 <= clock - beat
-}
-
 // From the relay's row on.
 fn beat_at(t: Tables, i: usize) -> RelaysOutcome
     requires { ⌜ i < 32 ⌝ }
     ensures { λ r. ⌜ onRelays t r ≡ heartbeatIn t (hit i (getD (t .relays) i blankRelay)) ⌝ }
 {
-    let mut rows = t.relays;
-    let mut row = rows[i];
+    let rows = t.relays;
+    let row = rows[i];
     if no_health(t.clock, row.beat) {
         return refuse(t, NO_RELAY);
     }
-    row.beat = t.clock;
-    rows[i] = row;
-    accept(t, 0, rows, t.last_relay)
+    let next = lent_relays::beat_at(rows, i, t.clock);
+    accept(t, 0, next, t.last_relay)
 }
 
 // A relay says that it is there.

@@ -1,6 +1,7 @@
 -- `beat_at` meets its contract: each return is that of its check. Assumes nothing.
 use Rattle.rules.specs.RelayCalls.{heartbeatIn}
 use Rattle.lists.specs.AnswerLaws.{checks, said}
+use Rattle.relays.proofs.RowAnswers.{beaten}
 use borrow.Author.Needs.{needs}
 use Rattle.relays.proofs.heartbeat.beat_at.Statement.{statement}
 use Rattle.relays.proofs.heartbeat.beat_at.Tie as tie
@@ -15,7 +16,6 @@ beat-at-spec =
     (λ c κs. search needs)
     (λ c κs. search needs)
     (λ c. search (checks, said))  -- NO_RELAY
-    (λ c. search needs)
-    (λ c. search needs)
     (λ c κs. search needs)
-    (λ c. search (checks, said)))  -- success
+    (λ c κs. search needs)
+    (λ c. search (checks, said, beaten)))  -- success
