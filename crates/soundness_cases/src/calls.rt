@@ -1,22 +1,51 @@
 // The calls on a desk, and what is printed of them. The arguments break no rule, so that a call that answers 1 does so for
-// the desk; on the full desk, heartbeat, look, stage and abandon are accepted.
+// the desk; on the full desk, those are accepted that need no free row.
 use super::compare::same_desk;
 use super::full;
 use amount::Cap;
 use rules::Account;
 use rules::Desk;
+use rules::Mode;
 use rules::Outcome;
 use rules::RelayNo;
 use rules::TokenNo;
+use rules::VolumeNo;
 use soundness::is_sound;
 
 // How many calls there are.
-const CALLS: usize = 7;
+const CALLS: usize = 16;
+
+// The owner of every volume of the full desk.
+fn owner() -> Account {
+    let bytes = [7u8; 32];
+    Account(bytes)
+}
 
 fn create(d: Desk) -> Outcome {
-    let bytes = [7u8; 32];
-    let account = Account(bytes);
-    desk::create(d, account, b"new", 2, 1, Cap::Unlimited)
+    desk::create(d, owner(), b"new", 2, 1, Cap::Unlimited)
+}
+
+fn grant(d: Desk) -> Outcome {
+    desk::grant(
+        d,
+        owner(),
+        VolumeNo(1),
+        b"",
+        Mode::Both,
+        Cap::Unlimited,
+        0,
+        100,
+    )
+}
+
+fn attenuate(d: Desk) -> Outcome {
+    desk::attenuate(d, TokenNo(1), b"", Mode::Read, Cap::Unlimited, 0, 100)
+}
+
+fn remove(d: Desk) -> Outcome {
+    let path = full::path(b'a', b'0');
+    let bytes = path.bytes;
+    desk::remove(d, owner(), VolumeNo(1), &bytes)
 }
 
 // The path of the full desk's first entry.
@@ -34,6 +63,20 @@ fn stage(d: Desk) -> Outcome {
     desk::stage(d, 0, &bytes, 17, hash)
 }
 
+fn later_call(i: usize, d: Desk) -> Outcome {
+    match i {
+        7 => desk::advance(d, 60),
+        8 => desk::deposit(d, VolumeNo(1), 5),
+        9 => desk::delete(d, owner(), VolumeNo(1)),
+        10 => desk::undelete(d, owner(), VolumeNo(1)),
+        11 => grant(d),
+        12 => attenuate(d),
+        13 => desk::revoke(d, owner(), TokenNo(1)),
+        14 => desk::commit(d, 0),
+        _ => remove(d),
+    }
+}
+
 fn call(i: usize, d: Desk) -> Outcome {
     match i {
         0 => desk::register(d, 0),
@@ -42,7 +85,22 @@ fn call(i: usize, d: Desk) -> Outcome {
         3 => look(d),
         4 => desk::open(d, 0, TokenNo(1)),
         5 => stage(d),
-        _ => desk::abandon(d, 0),
+        6 => desk::abandon(d, 0),
+        _ => later_call(i, d),
+    }
+}
+
+fn write_later_name(i: usize) -> bool {
+    match i {
+        7 => io::write_all(1, b"advance"),
+        8 => io::write_all(1, b"deposit"),
+        9 => io::write_all(1, b"delete"),
+        10 => io::write_all(1, b"undelete"),
+        11 => io::write_all(1, b"grant"),
+        12 => io::write_all(1, b"attenuate"),
+        13 => io::write_all(1, b"revoke"),
+        14 => io::write_all(1, b"commit"),
+        _ => io::write_all(1, b"remove"),
     }
 }
 
@@ -54,7 +112,8 @@ fn write_name(i: usize) -> bool {
         3 => io::write_all(1, b"look"),
         4 => io::write_all(1, b"open"),
         5 => io::write_all(1, b"stage"),
-        _ => io::write_all(1, b"abandon"),
+        6 => io::write_all(1, b"abandon"),
+        _ => write_later_name(i),
     }
 }
 
@@ -110,7 +169,7 @@ fn write_others(d: Desk) {
         i += 1;
     }
     if none {
-        io::write_all(1, b", all 7 calls answer 1, desk unchanged");
+        io::write_all(1, b", all 16 calls answer 1, desk unchanged");
     }
 }
 

@@ -8,8 +8,8 @@ pub write-calls-spec : {M : Type 1} → statement M
 write-calls-spec =
     tie.close
     (tie.spec
-    (λ d i₀ i. i ≤ 7)
-    (λ d i₀ i. 7 - i)
+    (λ d i₀ i. i ≤ 16)
+    (λ d i₀ i. 16 - i)
     (λ c. omega arith)
     (λ c κs. search needs)
     (λ c. omega arith)

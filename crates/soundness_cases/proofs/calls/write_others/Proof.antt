@@ -8,8 +8,8 @@ pub write-others-spec : {M : Type 1} → statement M
 write-others-spec =
     tie.close
     (tie.spec
-    (λ d none₀ i₀ t4 none i. i ≤ 7)
-    (λ d none₀ i₀ t4 none i. 7 - i)
+    (λ d none₀ i₀ t4 none i. i ≤ 16)
+    (λ d none₀ i₀ t4 none i. 16 - i)
     (λ c. omega arith)
     (λ c κs. search needs)
     (λ c κs. search needs)
