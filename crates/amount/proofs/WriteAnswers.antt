@@ -1,121 +1,131 @@
--- The loops and the answers of the writer: each law ends in what the code owes, and its premises are what the code knows there. Assumes nothing.
-use mathlib.Core.Path.{_≡_, refl, sym, _∙_}
-use mathlib.Core.Bool.{Bool, true, false}
+-- The answers of the writer: each law ends in what the code owes, and its premises are what the code knows there. Assumes nothing.
+use mathlib.Core.Path.{_≡_, refl, sym, _∙_, ap}
+use mathlib.Core.Bool.{Bool, true, false, cond}
 use mathlib.Core.List.{List, _∷_, _++_}
-use Prim.Native.Nat.{ℕ, _+_, _-_, _/_, _%_, _^_, _<_, _≤_}
-use native.Mathlib.Nat.{zero-add, pow-le-pow-right, lt-of-lt-of-le}
+use Prim.Native.Nat.{ℕ, _+_, _-_, _/_, _^_, _<_, _≤_}
+use native.Mathlib.Nat.{zero-add}
 use native.Mathlib.Omega.{arith}
 use borrow.Author.Needs.{needs}
-use lib.Dec.{lit<, ltb}
-use lib.ListN.{length, drop, getD, set, length-set, length-drop}
-use lib.Seq.{take-all, getD-drop}
-use Rattle.lists.specs.ByteLoopLaws.{FillLoop, fill-start, fill-step-first, fill-end, fills}
+use borrow.Author.Tests.{lt-ltb, le-ltb}
+use borrow.Rule.Slice.PartMut.{midOf, putMid}
+use mir.Syntax.{w64}
+use mir.Val.{Fits}
+use lib.Dec.{ltb}
+use lib.ListN.{length, take, drop, length-append, length-drop}
+use lib.Seq.{take-length, take-at, drop-at, drop-drop}
+use Rattle.lists.specs.ByteLoopLaws.{FillLoop, fill-end}
 use Rattle.amount.specs.declared.ByteUnit.{ByteUnit}
 use Rattle.amount.specs.declared.Cap.{Cap}
 use Rattle.amount.specs.declared.Cap.the-variants.{Unlimited, Bytes}
-use Rattle.amount.specs.declared.Spelling.{Spelling}
+use Rattle.amount.specs.declared.Written.{Written}
 use Rattle.amount.specs.declared.Written.the-variants.{Length, Refused}
 use Rattle.amount.specs.Amount.{limit, space, unlimitedText, sizeOf, nameOf}
-use Rattle.amount.specs.Digits.{digit, decimal}
-use Rattle.amount.specs.Steps.{spelling}
-use Rattle.amount.specs.Writing.{aboveLimit, bufferAfter, textOf, unitFor, writtenOf}
-use Rattle.amount.specs.WriteLaws.{digit-placed, number-placed, digits-room, spelled-length, written-above, written-short, written-whole}
+use Rattle.amount.specs.Digits.{decimal}
+use Rattle.amount.specs.Steps.{fitted}
+use Rattle.amount.specs.DecimalLaws.{decimal-length}
+use Rattle.amount.specs.Writing.{aboveLimit, atStart, bufferAfter, bufferAt, inUnit, room, textOf, unitFor, writtenOf}
+use Rattle.amount.specs.WriteLaws.{start-short, start-whole, rest-written}
 
--- the arms of a match on a cap or a unit
-pub count-above : (cap : Cap) (n : ℕ) → cap ≡ Bytes n → ltb limit n ≡ aboveLimit cap
-count-above cap n e = rw e
+-- a text written at the start of a buffer, or not
+module _ (text buf : List ℕ) where
+  pub short-answer : length buf < length text → Refused 12 ≡ fitted text (length buf)
+  short-answer h = rw (lt-ltb (length buf) (length text) h)
 
-pub by-unit : (u v : ByteUnit) (l : List ℕ) → u ≡ v → l ≡ space ∷ nameOf v → l ≡ space ∷ nameOf u
-by-unit u v l e h = rw e h
+  pub short-left : length buf < length text → buf ≡ atStart text buf
+  short-left h = sym (start-short text buf h)
 
--- the digits of n in front of the bytes from s on: those still to come are the digits of rest, and there is room for them
-pub record NumberLoop (n : ℕ) (bytes₀ : List ℕ) (s : ℕ) (bytes : List ℕ) (i rest : ℕ) : Type 0 where
-  pub size : length bytes ≡ 16
-  pub low : 1 ≤ i
-  pub high : i ≤ 16
-  pub below : rest < 10 ^ i
-  pub placed : decimal n ++ drop s bytes₀ ≡ decimal rest ++ drop i bytes
+  pub whole-answer : length text ≤ length buf → Length (length text) ≡ fitted text (length buf)
+  whole-answer h = rw (le-ltb (length buf) (length text) h)
 
-module _ (n : ℕ) (bytes₀ : List ℕ) (s : ℕ) where
-  pub number-start : length bytes₀ ≡ 16 → n < 10 ^ 11 → 12 ≤ s → s ≤ 16 → NumberLoop n bytes₀ s bytes₀ s n
-  number-start e h k m =
-      record {
-        size = e;
-        low = omega arith;
-        high = m;
-        below = lt-of-lt-of-le h (pow-le-pow-right {n = 10} (lit< tt) {i = 11} (omega arith));
-        placed = refl;
-      }
+  pub whole-left : (i : ℕ) (out : List ℕ) → FillLoop buf 0 text (length text) i out → length text ≤ i → length text ≤ length buf → out ≡ atStart text buf
+  whole-left i out h k l =
+      fill-end buf 0 text (length text) i out h k ∙ rw (zero-add, take-length) (sym (start-whole text buf l))
 
-  module _ (bytes : List ℕ) (i rest : ℕ) (h : NumberLoop n bytes₀ s bytes i rest) where
-    in-bytes : i ≤ length bytes
-    in-bytes = omega arith
+pub ruleset texts = (short-answer, short-left, whole-answer, whole-left, needs)
 
-    pub number-step : 10 ≤ rest → NumberLoop n bytes₀ s (set bytes (i - 1) (digit (rest % 10))) (i - 1) (rest / 10)
-    number-step k =
-        let r = digits-room rest i (h .below) k in
-        record {
-          size = length-set bytes (i - 1) (digit (rest % 10)) ∙ h .size;
-          low = omega arith;
-          high = omega arith;
-          below = r .1;
-          placed = h .placed ∙ digit-placed rest bytes i (h .low) in-bytes k;
-        }
+-- two texts, one after the other: a, of which count is the length, and then b
+module _ (a b buf : List ℕ) (count : ℕ) (e : count ≡ length a) where
+  both-length : length (a ++ b) ≡ count + length b
+  both-length = omega (arith, length-append a b)
 
-    pub number-end : rest < 10 → drop (i - 1) (set bytes (i - 1) (digit rest)) ≡ decimal n ++ drop s bytes₀
-    number-end k = sym (h .placed ∙ number-placed rest bytes i (h .low) in-bytes k)
+  pub both-short : length buf < count + length b → Refused 12 ≡ fitted (a ++ b) (length buf)
+  both-short h = short-answer (a ++ b) buf (rw both-length h)
 
-pub ruleset numbers = (number-step, number-end, number-start, needs)
+  pub both-short-left : length buf < count + length b → buf ≡ atStart (a ++ b) buf
+  both-short-left h = short-left (a ++ b) buf (rw both-length h)
 
--- the text of a cap
-pub word-spelled : (cap : Cap) → cap ≡ Unlimited → unlimitedText ≡ textOf cap
+  module _ (h : count + length b ≤ length buf) where
+    pub both-answer : Length (count + length b) ≡ fitted (a ++ b) (length buf)
+    both-answer = ap Length (sym both-length) ∙ whole-answer (a ++ b) buf (rw both-length h)
+
+    -- m is the buffer after the first, and part the lent rest of it after the second
+    pub both-left : (m part : List ℕ) → m ≡ atStart a buf → part ≡ atStart b (midOf count (length m - count) m) → putMid count (length m - count) m part ≡ atStart (a ++ b) buf
+    both-left m part em ep =
+        let f : m ≡ a ++ drop count buf = em ∙ start-whole a buf (omega arith) ∙ rw e in
+        let l : length m ≡ length buf = ap length f ∙ length-append a (drop count buf) ∙ omega (arith, length-drop count buf) in
+        let t : take count m ≡ a = ap (take count) f ∙ take-at a (drop count buf) count (sym e) in
+        let d : drop (count + length b) m ≡ drop (length (a ++ b)) buf =
+        sym (drop-drop (length b) count m) ∙ ap (λ (x : List ℕ). drop (length b) x) (ap (drop count) f ∙ drop-at a (drop count buf) count (sym e)) ∙ drop-drop (length b) count buf
+        ∙ rw both-length in
+        rest-written count b m part (omega arith) ep ∙ rw (t, d) (sym (start-whole (a ++ b) buf (rw both-length h)))
+
+pub sum-fits : (n count k : ℕ) → count ≡ length (decimal n) → n < 2 ^ 64 → k ≤ 4 → Fits w64 (count + k)
+sum-fits n count k e h m = record { fits = omega (arith, decimal-length n 19 (omega arith)) }
+
+pub ruleset pieces = (both-short, both-short-left, both-answer, both-left, sum-fits, needs)
+
+-- a count in its unit: the unit is v, and has so many bytes
+module _ (n bytes : ℕ) (u v : ByteUnit) (ev : u ≡ v) (eu : u ≡ unitFor n) (eb : bytes ≡ sizeOf u) where
+  same-text : decimal (n / bytes) ++ (space ∷ nameOf v) ≡ inUnit (unitFor n) n
+  same-text = rw (← ev, eb, eu)
+
+  pub unit-answer : (r : Written) (size : ℕ) → r ≡ fitted (decimal (n / bytes) ++ (space ∷ nameOf v)) size → r ≡ fitted (inUnit (unitFor n) n) size
+  unit-answer r size h = h ∙ ap (λ (t : List ℕ). fitted t size) same-text
+
+  pub unit-left : (buf out : List ℕ) → out ≡ atStart (decimal (n / bytes) ++ (space ∷ nameOf v)) buf → out ≡ atStart (inUnit (unitFor n) n) buf
+  unit-left buf out h = h ∙ ap (λ (t : List ℕ). atStart t buf) same-text
+
+pub ruleset units = (unit-answer, unit-left, needs)
+
+-- the answers of writing a cap, each with the buffer that it leaves
+start-answered : (text buf : List ℕ) → atStart text buf ≡ bufferAt (fitted text (length buf)) text buf
+unfolding atStart
+start-answered text buf = go (ltb (length buf) (length text))
+  where
+    go : (b : Bool) → cond b buf (text ++ drop (length text) buf) ≡ bufferAt (cond b (Refused room) (Length (length text))) text buf
+    go true = refl
+    go false = refl
+
+module _ (cap : Cap) (text buf : List ℕ) (h : aboveLimit cap ≡ false) (e : text ≡ textOf cap) where
+  pub cap-answer : (r : Written) → r ≡ fitted text (length buf) → r ≡ writtenOf cap (length buf)
+  unfolding writtenOf
+  cap-answer r q = q ∙ rw (h, e)
+
+  pub cap-left : (out : List ℕ) → out ≡ atStart text buf → out ≡ bufferAfter cap buf
+  unfolding writtenOf bufferAfter
+  cap-left out q = q ∙ rw (h, ← e) (start-answered text buf)
+
+pub no-limit : (cap : Cap) → cap ≡ Unlimited → aboveLimit cap ≡ false
+no-limit cap e = rw e
+
+pub within-limit : (cap : Cap) (n : ℕ) → cap ≡ Bytes n → n ≤ limit → aboveLimit cap ≡ false
+within-limit cap n e h = rw (e, le-ltb limit n h)
+
+pub word-text : (cap : Cap) → cap ≡ Unlimited → unlimitedText ≡ textOf cap
 unfolding textOf
-word-spelled cap e = rw e
+word-text cap e = rw e
 
-pub count-spelled : (cap : Cap) (n bytes : ℕ) (u : ByteUnit) (a b : Spelling) → cap ≡ Bytes n → u ≡ unitFor n → bytes ≡ sizeOf u
-    → spelling a ≡ space ∷ nameOf u → spelling b ≡ decimal (n / bytes) ++ spelling a → spelling b ≡ textOf cap
+pub count-text : (cap : Cap) (n : ℕ) → cap ≡ Bytes n → inUnit (unitFor n) n ≡ textOf cap
 unfolding textOf
-count-spelled cap n bytes u a b e eu eb ea h = h ∙ rw (ea, eb, eu, e)
+count-text cap n e = rw e
 
--- a text copied to the start of a buffer: one byte more of those of l from s on
-pub copy-step : (out₀ l : List ℕ) (s n i : ℕ) (out : List ℕ) → FillLoop out₀ 0 (drop s l) n i out → i < n
-    → FillLoop out₀ 0 (drop s l) n (i + 1) (set out i (getD l (s + i) 0))
-copy-step out₀ l s n i out h k = rw (getD-drop s l i 0) at (fill-step-first out₀ (drop s l) n i out 0 h k)
+module _ (cap : Cap) (n : ℕ) (e : cap ≡ Bytes n) (h : limit < n) (buf : List ℕ) where
+  pub too-large : Refused 24 ≡ writtenOf cap (length buf)
+  unfolding writtenOf
+  too-large = rw (e, lt-ltb limit n h)
 
-pub copy-in : (out₀ s : List ℕ) (n i : ℕ) (out : List ℕ) → FillLoop out₀ 0 s n i out → i < n → i < length out
-copy-in out₀ s n i out h k = omega arith
+  pub too-large-left : buf ≡ bufferAfter cap buf
+  unfolding writtenOf bufferAfter
+  too-large-left = rw (e, lt-ltb limit n h)
 
-pub copy-start : (out₀ l : List ℕ) (s : ℕ) → length l ≡ 16 → 16 - s ≤ length out₀ → FillLoop out₀ 0 (drop s l) (16 - s) 0 out₀
-copy-start out₀ l s e h = fill-start out₀ 0 (drop s l) (16 - s) (omega arith) (omega (arith, length-drop s l))
-
-pub copy-end : (out₀ l : List ℕ) (s i : ℕ) (out : List ℕ) → length l ≡ 16 → FillLoop out₀ 0 (drop s l) (16 - s) i out → 16 - s ≤ i
-    → out ≡ drop s l ++ drop (16 - s) out₀
-copy-end out₀ l s i out e h k =
-    fill-end out₀ 0 (drop s l) (16 - s) i out h k
-    ∙ rw (zero-add, take-all (16 - s) (drop s l) (omega (arith, length-drop s l)))
-
-pub ruleset copies = (copy-step, copy-end, copy-in, copy-start, fills)
-
--- the answers of writing, each with the buffer that it leaves: a says whether the cap is above the limit, and t is its text
-module _ (cap : Cap) (buf : List ℕ) (a : Bool) (e : a ≡ aboveLimit cap) where
-  pub too-large : a ≡ true → Refused 24 ≡ writtenOf cap (length buf)
-  too-large h = written-above cap buf e h .0
-
-  pub too-large-left : a ≡ true → buf ≡ bufferAfter cap buf
-  too-large-left h = written-above cap buf e h .1
-
-  module _ (t : Spelling) (no : a ≡ false) (w : spelling t ≡ textOf cap) (size : length (t .bytes) ≡ 16) where
-    long : length (textOf cap) ≡ 16 - t .start
-    long = spelled-length t (textOf cap) size w
-
-    pub no-room : length buf < 16 - t .start → Refused 12 ≡ writtenOf cap (length buf)
-    no-room h = written-short cap buf e no long h .0
-
-    pub no-room-left : length buf < 16 - t .start → buf ≡ bufferAfter cap buf
-    no-room-left h = written-short cap buf e no long h .1
-
-    pub put-whole : 16 - t .start ≤ length buf → Length (16 - t .start) ≡ writtenOf cap (length buf)
-    put-whole h = written-whole cap buf e no long h .0
-
-    pub put-left : (out : List ℕ) → 16 - t .start ≤ length buf → out ≡ spelling t ++ drop (16 - t .start) buf → out ≡ bufferAfter cap buf
-    put-left out h q = q ∙ rw w (written-whole cap buf e no long h .1)
+pub ruleset caps = (cap-answer, cap-left, no-limit, within-limit, word-text, count-text, too-large, too-large-left, needs)

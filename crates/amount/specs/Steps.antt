@@ -2,17 +2,19 @@
 use mathlib.Core.Bool.{cond}
 use mathlib.Core.List.{List}
 use Prim.Native.Nat.{ℕ, _+_, _*_, _^_}
-use lib.Dec.{eqb}
-use lib.ListN.{drop, length}
+use lib.Dec.{eqb, ltb}
+use lib.ListN.{length}
 use Rattle.amount.specs.declared.DigitRun.{DigitRun}
 use Rattle.amount.specs.declared.DigitRun.the-variants.{Digits, Outside}
 use Rattle.amount.specs.declared.ReadAmount.{ReadAmount}
 use Rattle.amount.specs.declared.ReadAmount.the-variants.{Refused}
-use Rattle.amount.specs.declared.Spelling.{Spelling}
 use Rattle.amount.specs.declared.UnitFound.{UnitFound}
 use Rattle.amount.specs.declared.UnitFound.the-variants.{Is, Nothing}
+use Rattle.amount.specs.declared.Written.{Written}
+use Rattle.amount.specs.declared.Written.the-variants.{Length, Refused as NoRoom}
 use Rattle.amount.specs.Digits.{leading, following, number}
 use Rattle.amount.specs.Amount.{within, fractionDigits, unitAfter, counted, sizeOf, textRefusal}
+use Rattle.amount.specs.Writing.{room}
 
 -- A run of digits, where it has from 1 to most of them.
 unfoldable pub runOf : ℕ → List ℕ → DigitRun
@@ -34,6 +36,6 @@ afterMark whole t =
     (sized (whole * 10 ^ length (leading t) + number (leading t)) (length (leading t)) (unitAfter (following t)))
     (Refused textRefusal)
 
--- The text that a spelling holds.
-abbrev pub spelling : Spelling → List ℕ
-spelling t = drop (t .start) (t .bytes)
+-- The answer of writing a text into a buffer of that many bytes.
+abbrev pub fitted : List ℕ → ℕ → Written
+fitted text size = cond (ltb size (length text)) (NoRoom room) (Length (length text))

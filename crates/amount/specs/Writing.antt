@@ -58,6 +58,10 @@ abbrev pub writtenValue : Written → ℕ
 writtenValue (Length n) = n
 writtenValue (Refused r) = 0
 
+-- A buffer with a text at its start: "Bytes after the text stay"; as it was where the text does not fit.
+unfoldable pub atStart : List ℕ → List ℕ → List ℕ
+atStart text buf = cond (ltb (length buf) (length text)) buf (text ++ drop (length text) buf)
+
 -- The buffer after an answer: the text at its start and "Bytes after the text stay"; as it was where the answer is a refusal.
 abbrev pub bufferAt : Written → List ℕ → List ℕ → List ℕ
 bufferAt (Length n) text buf = text ++ drop n buf

@@ -2,11 +2,13 @@
 //
 // The definitions that the contracts cite are in specs/: Amount.antt says which cap a text names,
 // Writing.antt which text a cap has. No public function has a `requires`.
+mod decimal;
 mod digits;
 mod reader;
 mod unit;
 mod writer;
 
+pub use decimal::write_decimal;
 pub use reader::read_amount;
 pub use writer::write_amount;
 
@@ -58,10 +60,4 @@ pub enum UnitFound {
 pub enum DigitRun {
     Digits(usize, u64),
     Outside,
-}
-
-// A text of up to 16 bytes: those of `bytes` from `start` on.
-pub struct Spelling {
-    pub bytes: [u8; 16],
-    pub start: usize,
 }

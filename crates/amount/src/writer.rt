@@ -1,31 +1,20 @@
 // Writing a cap as text.
 ghost use mathlib.Core.Path.{_≡_};
-ghost use mathlib.Core.Bool.{false};
-ghost use mathlib.Core.List.{_∷_, _++_};
-ghost use Prim.Native.Nat.{_-_, _^_, _<_, _≤_};
-ghost use lib.ListN.{drop, length};
-ghost use Rattle.amount.specs.Amount.{nameOf, space};
+ghost use mathlib.Core.List.{_++_};
+ghost use Prim.Native.Nat.{_≤_};
+ghost use lib.ListN.{length};
 ghost use Rattle.amount.specs.Digits.{decimal};
-ghost use Rattle.amount.specs.Steps.{spelling};
-ghost use Rattle.amount.specs.Writing.{aboveLimit, bufferAfter, textOf, unitFor, writtenOf};
+ghost use Rattle.amount.specs.Steps.{fitted};
+ghost use Rattle.amount.specs.Writing.{atStart, bufferAfter, inUnit, unitFor, writtenOf};
 use crate::ByteUnit;
 use crate::Cap;
 use crate::LIMIT;
 use crate::ROOM;
-use crate::Spelling;
 use crate::TOO_LARGE;
 use crate::Written;
+use crate::decimal::digit_count;
+use crate::decimal::write_decimal;
 use crate::unit::size;
-
-// Whether a cap counts more than the limit.
-fn above_limit(cap: Cap) -> bool
-    ensures { λ r. ⌜ r ≡ aboveLimit cap ⌝ }
-{
-    match cap {
-        Cap::Unlimited => false,
-        Cap::Bytes(n) => LIMIT < n,
-    }
-}
 
 // The largest unit that divides a count; B for 0.
 fn unit_for(n: u64) -> ByteUnit
@@ -46,93 +35,50 @@ fn unit_for(n: u64) -> ByteUnit
     ByteUnit::B
 }
 
-// What stands after the number: a space and the unit's name.
-fn ending(unit: ByteUnit) -> Spelling
-    ensures { λ r. ⌜ (spelling r ≡ space ∷ nameOf unit) × (12 ≤ r .start) × (r .start ≤ 16) ⌝ }
+// Writes a text at the start of a buffer, where it fits.
+fn write_text(text: &[u8], buf: &mut [u8]) -> Written
+    ensures answer { λ r. ⌜ r ≡ fitted (now (text .entry)) (length (now (buf .entry))) ⌝ }
+    ensures buffer { λ r. ⌜ now (buf .exit) ≡ atStart (now (text .entry)) (now (buf .entry)) ⌝ }
 {
-    match unit {
-        ByteUnit::B => Spelling {
-            bytes: [0, 0, 0, 0, 0, 0, 0, 0, 0, 0, 0, 0, 0, 0, b' ', b'B'],
-            start: 14,
-        },
-        ByteUnit::KiB => Spelling {
-            bytes: [0, 0, 0, 0, 0, 0, 0, 0, 0, 0, 0, 0, b' ', b'K', b'i', b'B'],
-            start: 12,
-        },
-        ByteUnit::MiB => Spelling {
-            bytes: [0, 0, 0, 0, 0, 0, 0, 0, 0, 0, 0, 0, b' ', b'M', b'i', b'B'],
-            start: 12,
-        },
-        ByteUnit::GiB => Spelling {
-            bytes: [0, 0, 0, 0, 0, 0, 0, 0, 0, 0, 0, 0, b' ', b'G', b'i', b'B'],
-            start: 12,
-        },
+    if buf.len() < text.len() {
+        return Written::Refused(ROOM);
     }
-}
-
-// The decimal digits of a number in front of a text, the last digit first.
-fn with_number(n: u64, text: Spelling) -> Spelling
-    requires { ⌜ (n < 10 ^ 11) × (12 ≤ text .start) × (text .start ≤ 16) ⌝ }
-    ensures { λ r. ⌜ (spelling r ≡ decimal n ++ spelling text) × (r .start ≤ 16) ⌝ }
-{
-    let mut bytes = text.bytes;
-    let mut i = text.start;
-    let mut rest = n;
-    while 10 <= rest {
-        i -= 1;
-        bytes[i] = b'0' + (rest % 10) as u8;
-        rest /= 10;
-    }
-    i -= 1;
-    bytes[i] = b'0' + rest as u8;
-    Spelling { bytes, start: i }
-}
-
-// The text of a cap.
-fn spelled(cap: Cap) -> Spelling
-    requires { ⌜ aboveLimit cap ≡ false ⌝ }
-    ensures { λ r. ⌜ (spelling r ≡ textOf cap) × (r .start ≤ 16) ⌝ }
-{
-    match cap {
-        Cap::Unlimited => Spelling {
-            bytes: [
-                0,
-                0,
-                0,
-                0,
-                0,
-                0,
-                0,
-                b'u',
-                b'n',
-                b'l',
-                b'i',
-                b'm',
-                b'i',
-                b't',
-                b'e',
-                b'd',
-            ],
-            start: 7,
-        },
-        Cap::Bytes(n) => {
-            let unit = unit_for(n);
-            with_number(n / size(unit), ending(unit))
-        }
-    }
-}
-
-// Copies a text to the start of a buffer.
-fn put(text: Spelling, buf: &mut [u8])
-    requires { ⌜ (text .start ≤ 16) × (16 - text .start ≤ length (now buf)) ⌝ }
-    ensures { λ _. ⌜ now (buf .exit) ≡ spelling text ++ drop (16 - text .start) (now (buf .entry)) ⌝ }
-{
-    let start = text.start;
-    let n = 16 - start;
     let mut i: usize = 0;
-    while i < n {
-        buf[i] = text.bytes[start + i];
+    while i < text.len() {
+        buf[i] = text[i];
         i += 1;
+    }
+    Written::Length(text.len())
+}
+
+// Writes a number and what stands after it at the start of a buffer, where both fit.
+fn write_number(n: u64, ending: &[u8], buf: &mut [u8]) -> Written
+    requires { ⌜ length (now ending) ≤ 4 ⌝ }
+    ensures answer { λ r. ⌜ r ≡ fitted (decimal n ++ now (ending .entry)) (length (now (buf .entry))) ⌝ }
+    ensures buffer { λ r. ⌜ now (buf .exit) ≡ atStart (decimal n ++ now (ending .entry)) (now (buf .entry)) ⌝ }
+{
+    let start = digit_count(n);
+    let end = start + ending.len();
+    if buf.len() < end {
+        return Written::Refused(ROOM);
+    }
+    write_decimal(n, buf);
+    write_text(ending, &mut buf[start..]);
+    Written::Length(end)
+}
+
+// Writes a count in its unit.
+fn write_count(n: u64, buf: &mut [u8]) -> Written
+    ensures answer { λ r. ⌜ r ≡ fitted (inUnit (unitFor n) n) (length (now (buf .entry))) ⌝ }
+    ensures buffer { λ r. ⌜ now (buf .exit) ≡ atStart (inUnit (unitFor n) n) (now (buf .entry)) ⌝ }
+{
+    let unit = unit_for(n);
+    let number = n / size(unit);
+    match unit {
+        ByteUnit::B => write_number(number, b" B", buf),
+        ByteUnit::KiB => write_number(number, b" KiB", buf),
+        ByteUnit::MiB => write_number(number, b" MiB", buf),
+        ByteUnit::GiB => write_number(number, b" GiB", buf),
     }
 }
 
@@ -142,14 +88,13 @@ pub fn write_amount(cap: Cap, buf: &mut [u8]) -> Written
     ensures answer { λ r. ⌜ r ≡ writtenOf cap (length (now (buf .entry))) ⌝ }
     ensures buffer { λ r. ⌜ now (buf .exit) ≡ bufferAfter cap (now (buf .entry)) ⌝ }
 {
-    if above_limit(cap) {
-        return Written::Refused(TOO_LARGE);
+    match cap {
+        Cap::Unlimited => write_text(b"unlimited", buf),
+        Cap::Bytes(n) => {
+            if LIMIT < n {
+                return Written::Refused(TOO_LARGE);
+            }
+            write_count(n, buf)
+        }
     }
-    let text = spelled(cap);
-    let n = 16 - text.start;
-    if buf.len() < n {
-        return Written::Refused(ROOM);
-    }
-    put(text, buf);
-    Written::Length(n)
 }
