@@ -3,7 +3,7 @@
 ghost use mathlib.Core.Path.{_≡_};
 ghost use Rattle.lists.specs.Lists.{allOf};
 ghost use Rattle.text.specs.Text.{isPathByte, isPart, parts, isPath, isPrefix, holds};
-ghost use Rattle.text.specs.Scan.{isOther, longer, passes, scanByte};
+ghost use Rattle.text.specs.Scan.{longer, passes, scanByte};
 use crate::PATH_LIMIT;
 use crate::Text;
 use crate::bytes::within;
@@ -27,18 +27,6 @@ pub(crate) struct Scan {
     pub rest: bool,
 }
 
-// Whether a part of this kind passes.
-fn is_other(k: Kind) -> bool
-    ensures { λ r. ⌜ r ≡ isOther k ⌝ }
-{
-    match k {
-        Kind::Empty => false,
-        Kind::Dot => false,
-        Kind::DotDot => false,
-        Kind::Other => true,
-    }
-}
-
 // The kind of a part with one more byte at its front.
 fn longer(is_dot: bool, k: Kind) -> Kind
     ensures { λ r. ⌜ r ≡ longer «is_dot» k ⌝ }
@@ -60,7 +48,12 @@ fn passes(k: Scan) -> bool
     ensures { λ r. ⌜ r ≡ passes k ⌝ }
 {
     let first = k.first;
-    if is_other(first) { k.rest } else { false }
+    match first {
+        Kind::Empty => false,
+        Kind::Dot => false,
+        Kind::DotDot => false,
+        Kind::Other => k.rest,
+    }
 }
 
 // What is known with one more byte at the front.
@@ -96,20 +89,13 @@ fn parts_pass(s: &[u8]) -> bool
     passes(k)
 }
 
-// Whether paths have this byte.
-fn is_path_byte(b: u8) -> bool
-    ensures { λ r. ⌜ r ≡ isPathByte b ⌝ }
-{
-    within(0x21, 0x7e, b)
-}
-
-// Whether paths have every byte of s.
+// Whether paths have every byte of s: 0x21 to 0x7e.
 fn path_bytes(s: &[u8]) -> bool
     ensures { λ r. ⌜ r ≡ allOf isPathByte (now (s .entry)) ⌝ }
 {
     let mut i: usize = 0;
     while i < s.len() {
-        if !is_path_byte(s[i]) {
+        if !within(0x21, 0x7e, s[i]) {
             return false;
         }
         i += 1;
