@@ -1,4 +1,5 @@
 use borrow.Author.Needs.{needs}
+use Rattle.rules.proofs.MadeLaws.{made}
 use Rattle.rules.proofs.answers.refusal.Statement.{statement}
 use Rattle.rules.proofs.answers.refusal.Tie as tie
 
@@ -7,4 +8,4 @@ refusal-spec =
     tie.close
     (tie.spec
     (λ c κs. search needs)
-    (λ c. cc))
+    (λ c. search made))

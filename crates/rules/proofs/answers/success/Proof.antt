@@ -1,4 +1,5 @@
 use borrow.Author.Needs.{needs}
+use Rattle.rules.proofs.MadeLaws.{made}
 use Rattle.rules.proofs.answers.success.Statement.{statement}
 use Rattle.rules.proofs.answers.success.Tie as tie
 
@@ -8,4 +9,4 @@ success-spec =
     (tie.spec
     (λ c κs. search needs)
     (λ c κs. search needs)
-    (λ c. cc))
+    (λ c. search made))

@@ -1,5 +1,6 @@
 -- `fresh_rows::fresh` meets its contract: the tables and each slot are the fresh ones. Assumes nothing.
 use borrow.Author.Needs.{needs}
+use Rattle.rules.proofs.MadeLaws.{made}
 use Rattle.rules.proofs.fresh_rows.fresh.Statement.{statement}
 use Rattle.rules.proofs.fresh_rows.fresh.Tie as tie
 
@@ -9,4 +10,4 @@ fresh-spec =
     (tie.spec
     (λ c κs. search needs)
     (λ c κs. search needs)
-    (λ c. cc))
+    (λ c. search made))

@@ -1,5 +1,6 @@
 -- `fresh_rows::fresh_entry` meets its contract: each part is the fresh one. Assumes nothing.
 use borrow.Author.Needs.{needs}
+use Rattle.rules.proofs.MadeLaws.{made}
 use Rattle.rules.proofs.fresh_rows.fresh_entry.Statement.{statement}
 use Rattle.rules.proofs.fresh_rows.fresh_entry.Tie as tie
 
@@ -10,4 +11,4 @@ fresh-entry-spec =
     (λ c κs. search needs)
     (λ c κs. search needs)
     (λ c κs. search needs)
-    (λ c. cc))
+    (λ c. search made))

@@ -1,5 +1,6 @@
 -- `fresh_rows::fresh_put` meets its contract: each part is the fresh one. Assumes nothing.
 use borrow.Author.Needs.{needs}
+use Rattle.rules.proofs.MadeLaws.{made}
 use Rattle.rules.proofs.fresh_rows.fresh_put.Statement.{statement}
 use Rattle.rules.proofs.fresh_rows.fresh_put.Tie as tie
 
@@ -9,4 +10,4 @@ fresh-put-spec =
     (tie.spec
     (λ c κs. search needs)
     (λ c κs. search needs)
-    (λ c. cc))
+    (λ c. search made))

@@ -1,4 +1,5 @@
 use borrow.Author.Needs.{needs}
+use Rattle.rules.proofs.MadeLaws.{made}
 use Rattle.rules.proofs.fresh_rows.fresh_session.Statement.{statement}
 use Rattle.rules.proofs.fresh_rows.fresh_session.Tie as tie
 
@@ -7,4 +8,4 @@ fresh-session-spec =
     tie.close
     (tie.spec
     (λ c κs. search needs)
-    (λ c. rw (c .fresh-put .ensures)))
+    (λ c. search made))

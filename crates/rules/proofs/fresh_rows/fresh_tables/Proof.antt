@@ -1,5 +1,6 @@
 -- `fresh_rows::fresh_tables` meets its contract: each row is the fresh one. Assumes nothing.
 use borrow.Author.Needs.{needs}
+use Rattle.rules.proofs.MadeLaws.{made}
 use Rattle.rules.proofs.fresh_rows.fresh_tables.Statement.{statement}
 use Rattle.rules.proofs.fresh_rows.fresh_tables.Tie as tie
 
@@ -11,4 +12,4 @@ fresh-tables-spec =
     (λ c κs. search needs)
     (λ c κs. search needs)
     (λ c κs. search needs)
-    (λ c. cc))
+    (λ c. search made))
