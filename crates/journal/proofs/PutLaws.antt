@@ -17,7 +17,8 @@ use Rattle.journal.specs.NumberLaws.{length-bytesOf}
 use Rattle.journal.specs.Fields.{capBytes}
 use Rattle.journal.specs.Records.{v01}
 use Rattle.journal.specs.Writes.{over, givable, fieldBytes}
-use Rattle.journal.proofs.OverLaws.{over-none, over-pair}
+use Rattle.lists.specs.OverLaws.{over-none}
+use Rattle.journal.proofs.OverLaws.{over-pair}
 use Rattle.journal.proofs.SizeLaws.{account-bytes, no-bytes, slot-bytes, k-bytes, m-bytes, text-bytes, amount-bytes, hash-bytes, mode-bytes, cap-bytes, from-bytes, until-bytes, none-bytes, unlimited-length, count-length}
 
 -- the bytes of the field that the arm names, and how many they are

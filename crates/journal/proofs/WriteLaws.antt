@@ -33,7 +33,8 @@ use Rattle.journal.specs.Records.{v01, fieldsOf, formsOf, kinds, kindNum
 use Rattle.journal.specs.RecordLaws.{kind-of-number}
 use Rattle.journal.specs.Table.{named, padded}
 use Rattle.journal.specs.Writes.{valuesIn, givable, givableAll, inFrame, kindIn, recordIn, over, answerOf, bufferOf, fieldBytes, fieldsBytes, fieldsSize, sized}
-use Rattle.journal.proofs.OverLaws.{over-none, over-over, over-pair, length-over}
+use Rattle.lists.specs.OverLaws.{over-none, over-over, length-over}
+use Rattle.journal.proofs.OverLaws.{over-pair}
 use Rattle.journal.proofs.SizeLaws.{fields-taken, count-within, field-in}
 use Rattle.journal.proofs.ReadLaws.{named-kind, named-none}
 

@@ -5,7 +5,8 @@ use mathlib.Core.List.{List, [], _∷_, _++_}
 use mathlib.Core.Option.{Option, none, some}
 use Prim.Native.Nat.{ℕ, _+_, _≤_}
 use lib.Dec.{eqb, leb}
-use lib.ListN.{length, take, drop}
+use lib.ListN.{length}
+pub use Rattle.lists.specs.Bytes.{over}
 use Rattle.rules.specs.declared.Mode.{Mode}
 use Rattle.rules.specs.declared.Mode.the-variants as right
 use Rattle.rules.specs.Numbers.{BAD, ROOM}
@@ -76,10 +77,6 @@ kindIn v (some k) d t = cond (givableAll v (fieldsOf v k) d t) (some (inFrame (r
 -- the record with its length, or nothing: "an unknown kind, a mode above 2, a text above 255 bytes"
 unfoldable pub recordIn : Version → Fields → List ℕ → Option (List ℕ)
 recordIn v d t = kindIn v (kindNumbered v (d .kind)) d t
-
--- the bytes over those that stand at a place
-abbrev pub over : ℕ → List ℕ → List ℕ → List ℕ
-over at b buf = take at buf ++ b ++ drop (at + length b) buf
 
 -- what the writer answers: how many bytes it wrote, or 1, or 12
 abbrev pub answerOf : Option (List ℕ) → ℕ → Written

@@ -11,3 +11,4 @@ pub mod ByteLaws
 pub mod AnswerLaws
 pub mod LoopLaws
 pub mod ByteLoopLaws
+pub mod OverLaws

@@ -2,7 +2,7 @@
 use Prim.Native.Nat.{_-_}
 use lib.ListN.{length}
 use Rattle.lists.specs.ByteLoopLaws.{FillLoop, fills}
-use Rattle.journal.proofs.OverLaws.{filled-over}
+use Rattle.lists.specs.OverLaws.{filled-over}
 use Rattle.journal.proofs.numbers.put_bytes.Statement.{statement}
 use Rattle.journal.proofs.numbers.put_bytes.Tie as tie
 
