@@ -1,131 +1,141 @@
--- The answers of the writer: each law ends in what the code owes, and its premises are what the code knows there. Assumes nothing.
+-- The loop and the answers of the writer: each law ends in what the code owes, and its premises are what the code knows there. Assumes nothing.
 use mathlib.Core.Path.{_≡_, refl, sym, _∙_, ap}
-use mathlib.Core.Bool.{Bool, true, false, cond}
 use mathlib.Core.List.{List, _∷_, _++_}
-use Prim.Native.Nat.{ℕ, _+_, _-_, _/_, _^_, _<_, _≤_}
-use native.Mathlib.Nat.{zero-add}
+use Prim.Native.Nat.{ℕ, _+_, _/_, _^_, _<_, _≤_}
+use native.Mathlib.Nat.{zero-add, div-le-self}
 use native.Mathlib.Omega.{arith}
 use borrow.Author.Needs.{needs}
 use borrow.Author.Tests.{lt-ltb, le-ltb}
-use borrow.Rule.Slice.PartMut.{midOf, putMid}
 use mir.Syntax.{w64}
 use mir.Val.{Fits}
-use lib.Dec.{ltb}
-use lib.ListN.{length, take, drop, length-append, length-drop}
-use lib.Seq.{take-length, take-at, drop-at, drop-drop}
-use Rattle.lists.specs.ByteLoopLaws.{FillLoop, fill-end}
+use lib.ListN.{length, take, getD, set, length-append}
+use lib.Seq.{length-take-le, getD-take, take-take}
+use Rattle.lists.specs.Bytes.{over}
+use Rattle.lists.specs.ByteLoopLaws.{FillLoop, fill-start, fill-step, fill-end, fills}
+use Rattle.lists.specs.OverLaws.{over-over}
 use Rattle.amount.specs.declared.ByteUnit.{ByteUnit}
 use Rattle.amount.specs.declared.Cap.{Cap}
 use Rattle.amount.specs.declared.Cap.the-variants.{Unlimited, Bytes}
+use Rattle.amount.specs.declared.Spelling.{Spelling}
 use Rattle.amount.specs.declared.Written.{Written}
 use Rattle.amount.specs.declared.Written.the-variants.{Length, Refused}
 use Rattle.amount.specs.Amount.{limit, space, unlimitedText, sizeOf, nameOf}
 use Rattle.amount.specs.Digits.{decimal}
-use Rattle.amount.specs.Steps.{fitted}
 use Rattle.amount.specs.DecimalLaws.{decimal-length}
-use Rattle.amount.specs.Writing.{aboveLimit, atStart, bufferAfter, bufferAt, inUnit, room, textOf, unitFor, writtenOf}
-use Rattle.amount.specs.WriteLaws.{start-short, start-whole, rest-written}
+use Rattle.amount.specs.Steps.{fitted, spelling}
+use Rattle.amount.specs.Writing.{atStart, bufferAfter, inUnit, textOf, unitFor, writtenOf}
+use Rattle.amount.specs.WriteLaws.{start-short, start-over, start-answered}
 
--- a text written at the start of a buffer, or not
-module _ (text buf : List ℕ) where
-  pub short-answer : length buf < length text → Refused 12 ≡ fitted text (length buf)
-  short-answer h = rw (lt-ltb (length buf) (length text) h)
+-- the arms of a match on a unit
+pub by-unit : (u v : ByteUnit) (l : List ℕ) → u ≡ v → l ≡ space ∷ nameOf v → l ≡ space ∷ nameOf u
+by-unit u v l e h = rw e h
 
-  pub short-left : length buf < length text → buf ≡ atStart text buf
-  short-left h = sym (start-short text buf h)
+-- a text copied into a buffer from a place on: the first len of the bytes l
+module _ (out₀ l : List ℕ) (at len : ℕ) where
+  pub copy-start : length l ≡ 9 → len ≤ 9 → at + len ≤ length out₀ → FillLoop out₀ at (take len l) len 0 out₀
+  copy-start e h k = fill-start out₀ at (take len l) len k (omega (arith, length-take-le len l (omega arith)))
 
-  pub whole-answer : length text ≤ length buf → Length (length text) ≡ fitted text (length buf)
-  whole-answer h = rw (le-ltb (length buf) (length text) h)
+  module _ (i : ℕ) (out : List ℕ) (h : FillLoop out₀ at (take len l) len i out) where
+    pub copy-step : i < len → FillLoop out₀ at (take len l) len (i + 1) (set out (at + i) (getD l i 0))
+    copy-step k = rw (getD-take len l i 0 k) at (fill-step out₀ at (take len l) len i out 0 h k)
 
-  pub whole-left : (i : ℕ) (out : List ℕ) → FillLoop buf 0 text (length text) i out → length text ≤ i → length text ≤ length buf → out ≡ atStart text buf
-  whole-left i out h k l =
-      fill-end buf 0 text (length text) i out h k ∙ rw (zero-add, take-length) (sym (start-whole text buf l))
+    pub copy-end : length l ≡ 9 → len ≤ 9 → len ≤ i → out ≡ over at (take len l) out₀
+    copy-end e s k =
+        let n : length (take len l) ≡ len = length-take-le len l (omega arith) in
+        fill-end out₀ at (take len l) len i out h k ∙ rw (n, take-take len len l (omega arith))
 
-pub ruleset texts = (short-answer, short-left, whole-answer, whole-left, needs)
+pub ruleset copies = (copy-step, copy-end, copy-start, fills)
 
--- two texts, one after the other: a, of which count is the length, and then b
-module _ (a b buf : List ℕ) (count : ℕ) (e : count ≡ length a) where
-  both-length : length (a ++ b) ≡ count + length b
-  both-length = omega (arith, length-append a b)
+-- a text written at the start of a buffer, or not; len is its length
+module _ (text buf : List ℕ) (len : ℕ) (e : length text ≡ len) where
+  short-answer : length buf < len → Refused 12 ≡ fitted text (length buf)
+  short-answer h = rw (e, lt-ltb (length buf) len h)
 
-  pub both-short : length buf < count + length b → Refused 12 ≡ fitted (a ++ b) (length buf)
-  both-short h = short-answer (a ++ b) buf (rw both-length h)
+  short-left : length buf < len → buf ≡ atStart text buf
+  short-left h = sym (start-short text buf (rw e h))
 
-  pub both-short-left : length buf < count + length b → buf ≡ atStart (a ++ b) buf
-  both-short-left h = short-left (a ++ b) buf (rw both-length h)
+  whole-answer : len ≤ length buf → Length len ≡ fitted text (length buf)
+  whole-answer h = rw (e, le-ltb (length buf) len h)
 
-  module _ (h : count + length b ≤ length buf) where
-    pub both-answer : Length (count + length b) ≡ fitted (a ++ b) (length buf)
-    both-answer = ap Length (sym both-length) ∙ whole-answer (a ++ b) buf (rw both-length h)
+  whole-left : len ≤ length buf → over 0 text buf ≡ atStart text buf
+  whole-left h = sym (start-over text buf (rw e h))
 
-    -- m is the buffer after the first, and part the lent rest of it after the second
-    pub both-left : (m part : List ℕ) → m ≡ atStart a buf → part ≡ atStart b (midOf count (length m - count) m) → putMid count (length m - count) m part ≡ atStart (a ++ b) buf
-    both-left m part em ep =
-        let f : m ≡ a ++ drop count buf = em ∙ start-whole a buf (omega arith) ∙ rw e in
-        let l : length m ≡ length buf = ap length f ∙ length-append a (drop count buf) ∙ omega (arith, length-drop count buf) in
-        let t : take count m ≡ a = ap (take count) f ∙ take-at a (drop count buf) count (sym e) in
-        let d : drop (count + length b) m ≡ drop (length (a ++ b)) buf =
-        sym (drop-drop (length b) count m) ∙ ap (λ (x : List ℕ). drop (length b) x) (ap (drop count) f ∙ drop-at a (drop count buf) count (sym e)) ∙ drop-drop (length b) count buf
-        ∙ rw both-length in
-        rest-written count b m part (omega arith) ep ∙ rw (t, d) (sym (start-whole (a ++ b) buf (rw both-length h)))
+-- the end of a number's digits and of what stands after them
+pub count-fits : (n bytes start len : ℕ) → start ≡ length (decimal (n / bytes)) → n < 2 ^ 64 → len ≤ 9 → Fits w64 (start + len)
+count-fits n bytes start len e h k =
+    let l : n / bytes < 10 ^ 20 = omega (arith, div-le-self n bytes) in
+    record { fits = omega (arith, decimal-length (n / bytes) 19 l) }
 
-pub sum-fits : (n count k : ℕ) → count ≡ length (decimal n) → n < 2 ^ 64 → k ≤ 4 → Fits w64 (count + k)
-sum-fits n count k e h m = record { fits = omega (arith, decimal-length n 19 (omega arith)) }
+-- a count in its unit u, which has so many bytes: the number's digits, of which there are start, and then the text t
+module _ (n bytes start : ℕ) (u : ByteUnit) (t : Spelling) (buf : List ℕ) (eu : u ≡ unitFor n) (eb : bytes ≡ sizeOf u)
+    (et : spelling t ≡ space ∷ nameOf u)
+    (es : start ≡ length (decimal (n / bytes)))
+    (small : t .len ≤ 9)
+    (size : length (t .bytes) ≡ 9) where
+  whole : decimal (n / bytes) ++ spelling t ≡ inUnit (unitFor n) n
+  whole = rw (et, eb, eu)
 
-pub ruleset pieces = (both-short, both-short-left, both-answer, both-left, sum-fits, needs)
+  long : length (inUnit (unitFor n) n) ≡ start + t .len
+  long =
+      ap length (sym whole) ∙ length-append (decimal (n / bytes)) (spelling t)
+      ∙ omega (arith, length-take-le (t .len) (t .bytes) (omega arith))
 
--- a count in its unit: the unit is v, and has so many bytes
-module _ (n bytes : ℕ) (u v : ByteUnit) (ev : u ≡ v) (eu : u ≡ unitFor n) (eb : bytes ≡ sizeOf u) where
-  same-text : decimal (n / bytes) ++ (space ∷ nameOf v) ≡ inUnit (unitFor n) n
-  same-text = rw (← ev, eb, eu)
+  pub count-short : length buf < start + t .len → Refused 12 ≡ fitted (inUnit (unitFor n) n) (length buf)
+  count-short = short-answer (inUnit (unitFor n) n) buf (start + t .len) long
 
-  pub unit-answer : (r : Written) (size : ℕ) → r ≡ fitted (decimal (n / bytes) ++ (space ∷ nameOf v)) size → r ≡ fitted (inUnit (unitFor n) n) size
-  unit-answer r size h = h ∙ ap (λ (t : List ℕ). fitted t size) same-text
+  pub count-short-left : length buf < start + t .len → buf ≡ atStart (inUnit (unitFor n) n) buf
+  count-short-left = short-left (inUnit (unitFor n) n) buf (start + t .len) long
 
-  pub unit-left : (buf out : List ℕ) → out ≡ atStart (decimal (n / bytes) ++ (space ∷ nameOf v)) buf → out ≡ atStart (inUnit (unitFor n) n) buf
-  unit-left buf out h = h ∙ ap (λ (t : List ℕ). atStart t buf) same-text
+  module _ (h : start + t .len ≤ length buf) where
+    pub count-whole : Length (start + t .len) ≡ fitted (inUnit (unitFor n) n) (length buf)
+    count-whole = whole-answer (inUnit (unitFor n) n) buf (start + t .len) long h
 
-pub ruleset units = (unit-answer, unit-left, needs)
+    -- m is the buffer after the digits
+    pub count-left : (m out : List ℕ) → m ≡ atStart (decimal (n / bytes)) buf → out ≡ over start (spelling t) m → out ≡ atStart (inUnit (unitFor n) n) buf
+    count-left m out em eo =
+        let d = decimal (n / bytes) in
+        let two : over start (spelling t) (over 0 d buf) ≡ over 0 (d ++ spelling t) buf =
+        ap (λ (k : ℕ). over k (spelling t) (over 0 d buf)) (es ∙ sym (zero-add (length d))) ∙ over-over 0 d (spelling t) buf (omega arith) in
+        eo ∙ rw (em, start-over d buf (omega arith)) two ∙ ap (λ (x : List ℕ). over 0 x buf) whole
+        ∙ whole-left (inUnit (unitFor n) n) buf (start + t .len) long h
 
--- the answers of writing a cap, each with the buffer that it leaves
-start-answered : (text buf : List ℕ) → atStart text buf ≡ bufferAt (fitted text (length buf)) text buf
-unfolding atStart
-start-answered text buf = go (ltb (length buf) (length text))
-  where
-    go : (b : Bool) → cond b buf (text ++ drop (length text) buf) ≡ bufferAt (cond b (Refused room) (Length (length text))) text buf
-    go true = refl
-    go false = refl
+pub ruleset counts-written = (count-fits, count-short, count-short-left, count-whole, count-left, needs)
 
-module _ (cap : Cap) (text buf : List ℕ) (h : aboveLimit cap ≡ false) (e : text ≡ textOf cap) where
-  pub cap-answer : (r : Written) → r ≡ fitted text (length buf) → r ≡ writtenOf cap (length buf)
+-- the answers of writing a cap
+module _ (cap : Cap) (e : cap ≡ Unlimited) (buf : List ℕ) where
+  pub word-short : length buf < 9 → Refused 12 ≡ writtenOf cap (length buf)
+  unfolding writtenOf textOf
+  word-short h = rw e (short-answer unlimitedText buf 9 refl h)
+
+  pub word-short-left : length buf < 9 → buf ≡ bufferAfter cap buf
+  unfolding writtenOf textOf bufferAfter
+  word-short-left h = rw e (short-left unlimitedText buf 9 refl h ∙ start-answered unlimitedText buf)
+
+  pub word-whole : 9 ≤ length buf → Length 9 ≡ writtenOf cap (length buf)
+  unfolding writtenOf textOf
+  word-whole h = rw e (whole-answer unlimitedText buf 9 refl h)
+
+  pub word-left : (out : List ℕ) → 9 ≤ length buf → out ≡ over 0 unlimitedText buf → out ≡ bufferAfter cap buf
+  unfolding writtenOf textOf bufferAfter
+  word-left out h q = q ∙ rw e (whole-left unlimitedText buf 9 refl h ∙ start-answered unlimitedText buf)
+
+module _ (cap : Cap) (n : ℕ) (e : cap ≡ Bytes n) (buf : List ℕ) where
+  pub too-large : limit < n → Refused 24 ≡ writtenOf cap (length buf)
   unfolding writtenOf
-  cap-answer r q = q ∙ rw (h, e)
+  too-large h = rw (e, lt-ltb limit n h)
 
-  pub cap-left : (out : List ℕ) → out ≡ atStart text buf → out ≡ bufferAfter cap buf
+  pub too-large-left : limit < n → buf ≡ bufferAfter cap buf
   unfolding writtenOf bufferAfter
-  cap-left out q = q ∙ rw (h, ← e) (start-answered text buf)
+  too-large-left h = rw (e, lt-ltb limit n h)
 
-pub no-limit : (cap : Cap) → cap ≡ Unlimited → aboveLimit cap ≡ false
-no-limit cap e = rw e
+  pub count-answer : (r : Written) → n ≤ limit → r ≡ fitted (inUnit (unitFor n) n) (length buf) → r ≡ writtenOf cap (length buf)
+  unfolding writtenOf textOf
+  count-answer r h q = q ∙ rw (e, le-ltb limit n h)
 
-pub within-limit : (cap : Cap) (n : ℕ) → cap ≡ Bytes n → n ≤ limit → aboveLimit cap ≡ false
-within-limit cap n e h = rw (e, le-ltb limit n h)
+  pub count-buffer : (out : List ℕ) → n ≤ limit → out ≡ atStart (inUnit (unitFor n) n) buf → out ≡ bufferAfter cap buf
+  unfolding writtenOf textOf bufferAfter
+  count-buffer out h q = q ∙ rw (e, le-ltb limit n h) (start-answered (inUnit (unitFor n) n) buf)
 
-pub word-text : (cap : Cap) → cap ≡ Unlimited → unlimitedText ≡ textOf cap
-unfolding textOf
-word-text cap e = rw e
+pub ruleset words = (word-short, word-short-left, word-whole, word-left, needs)
 
-pub count-text : (cap : Cap) (n : ℕ) → cap ≡ Bytes n → inUnit (unitFor n) n ≡ textOf cap
-unfolding textOf
-count-text cap n e = rw e
-
-module _ (cap : Cap) (n : ℕ) (e : cap ≡ Bytes n) (h : limit < n) (buf : List ℕ) where
-  pub too-large : Refused 24 ≡ writtenOf cap (length buf)
-  unfolding writtenOf
-  too-large = rw (e, lt-ltb limit n h)
-
-  pub too-large-left : buf ≡ bufferAfter cap buf
-  unfolding writtenOf bufferAfter
-  too-large-left = rw (e, lt-ltb limit n h)
-
-pub ruleset caps = (cap-answer, cap-left, no-limit, within-limit, word-text, count-text, too-large, too-large-left, needs)
+pub ruleset amounts = (too-large, too-large-left, count-answer, count-buffer)

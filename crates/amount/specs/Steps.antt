@@ -3,11 +3,12 @@ use mathlib.Core.Bool.{cond}
 use mathlib.Core.List.{List}
 use Prim.Native.Nat.{ℕ, _+_, _*_, _^_}
 use lib.Dec.{eqb, ltb}
-use lib.ListN.{length}
+use lib.ListN.{length, take}
 use Rattle.amount.specs.declared.DigitRun.{DigitRun}
 use Rattle.amount.specs.declared.DigitRun.the-variants.{Digits, Outside}
 use Rattle.amount.specs.declared.ReadAmount.{ReadAmount}
 use Rattle.amount.specs.declared.ReadAmount.the-variants.{Refused}
+use Rattle.amount.specs.declared.Spelling.{Spelling}
 use Rattle.amount.specs.declared.UnitFound.{UnitFound}
 use Rattle.amount.specs.declared.UnitFound.the-variants.{Is, Nothing}
 use Rattle.amount.specs.declared.Written.{Written}
@@ -39,3 +40,7 @@ afterMark whole t =
 -- The answer of writing a text into a buffer of that many bytes.
 abbrev pub fitted : List ℕ → ℕ → Written
 fitted text size = cond (ltb size (length text)) (NoRoom room) (Length (length text))
+
+-- The text that a spelling holds.
+abbrev pub spelling : Spelling → List ℕ
+spelling t = take (t .len) (t .bytes)

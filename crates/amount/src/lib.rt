@@ -61,3 +61,9 @@ pub enum DigitRun {
     Digits(usize, u64),
     Outside,
 }
+
+// A text of up to 9 bytes: the first `len` of `bytes`.
+pub struct Spelling {
+    pub bytes: [u8; 9],
+    pub len: usize,
+}

@@ -1,7 +1,6 @@
 pub mod OverLaws
 pub mod CarryLaws
 pub mod ItemAnswers
-pub mod DigitLoops
 pub mod ReplayLaws
 pub mod GroupLaws
 pub mod ReplayAnswers

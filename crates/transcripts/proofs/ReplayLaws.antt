@@ -33,7 +33,7 @@ use Rattle.transcripts.specs.Written.{Wrote}
 use Rattle.transcripts.specs.Groups.{isRecord, callIn, StandsAt, BodyAt}
 use Rattle.transcripts.specs.ItemLaws.{Within, Standing, item-within, item-more, item-end, item-stop, item-call}
 use Rattle.transcripts.specs.Parts.{deskOf}
-use Rattle.transcripts.proofs.OverLaws.{length-over, over-over}
+use Rattle.lists.specs.OverLaws.{length-over, over-over}
 
 -- what is printed for the records l, and for those from p on, where n records left the tables t and the slots
 abbrev pub wholeOf : List ℕ → List ℕ

@@ -1,7 +1,6 @@
 // What the program prints for a journal: specs/Transcript says it. items.rt takes the journal apart, carry.rt carries the
 // records out, lines.rt writes the lines, and replay.rt does it all record after record.
 mod carry;
-mod digits;
 mod items;
 mod lines;
 mod replay;

@@ -1,10 +1,11 @@
 // The lines of a transcript, written into a lent buffer from a place on. Each function gives the place after its line.
 ghost use Prim.Native.Nat.{_+_, _≤_};
 ghost use lib.ListN.{length};
+ghost use Rattle.amount.specs.Digits.{decimal};
 ghost use Rattle.journal.specs.Journal.{Ending};
 ghost use Rattle.transcripts.specs.Transcript.{firstLine, numeral, recordLine, lastLine};
 ghost use Rattle.transcripts.specs.Written.{Wrote};
-use super::digits::put_decimal;
+use amount::write_decimal;
 use rules::Answer;
 
 // Bytes from a place on.
@@ -19,6 +20,14 @@ fn put_bytes(out: &mut [u8], at: usize, s: &[u8]) -> usize
         i += 1;
     }
     at + s.len()
+}
+
+// The digits of a number from a place on.
+fn put_decimal(out: &mut [u8], at: usize, n: u64) -> usize
+    requires { ⌜ at + length (decimal n) ≤ length (now out) ⌝ }
+    ensures { λ r. ⌜ Wrote at (decimal n) (now (out .entry)) r (now (out .exit)) ⌝ }
+{
+    at + write_decimal(n, &mut out[at..])
 }
 
 // A number, and the byte after it.

@@ -1,6 +1,6 @@
--- `write_amount` meets its contract: each return is that of its arm. Assumes nothing.
+-- `write_amount` meets its contract: each return is that of its arm.
 use borrow.Author.Needs.{needs}
-use Rattle.amount.proofs.WriteAnswers.{caps}
+use Rattle.amount.proofs.WriteAnswers.{words, amounts}
 use Rattle.amount.proofs.writer.write_amount.Statement.{statement}
 use Rattle.amount.proofs.writer.write_amount.Tie as tie
 
@@ -9,12 +9,12 @@ write-amount-spec =
     tie.close
     (tie.spec
     (λ c. search needs)
-    (λ c. search needs)
+    (λ c. search words)  -- ROOM
     (λ c κs. search needs)
     (λ c. search needs)
-    (λ c. search caps)  -- TOO LARGE
+    (λ c. search amounts)  -- TOO LARGE
     (λ c κs. search needs)
     (λ c. search needs)
-    (λ c. search caps)  -- no limit
+    (λ c. search words)  -- no limit
     (λ c. search needs)
-    (λ c. search caps))  -- a count
+    (λ c. search amounts))  -- a count

@@ -1,7 +1,7 @@
--- `write_count` meets its contract: each return is that of its unit. Assumes nothing.
+-- `write_count` meets its contract: the digits of the number, and then the unit. Assumes nothing.
 use borrow.Author.Needs.{needs}
 use Rattle.amount.proofs.CountAnswers.{size-some}
-use Rattle.amount.proofs.WriteAnswers.{units}
+use Rattle.amount.proofs.WriteAnswers.{counts-written}
 use Rattle.amount.proofs.writer.write_count.Statement.{statement}
 use Rattle.amount.proofs.writer.write_count.Tie as tie
 
@@ -12,23 +12,11 @@ write-count-spec =
     (λ c κs. search needs)
     (λ c κs. search needs)
     (λ c. search size-some)
-    (λ c. search needs)
-    (λ c. search needs)
+    (λ c κs. search needs)
+    (λ c κs. search needs)
+    (λ c. search counts-written)
+    (λ c. search counts-written)  -- ROOM
+    (λ c κs. search needs)
     (λ c κs. search needs)
     (λ c. search needs)
-    (λ c. search needs)
-    (λ c κs. search needs)
-    (λ c. search needs)
-    (λ c. search needs)
-    (λ c κs. search needs)
-    (λ c. search needs)
-    (λ c. search needs)
-    (λ c κs. search needs)
-    (λ c. search needs)
-    (λ c. search units)  -- B
-    (λ c. search needs)
-    (λ c. search units)  -- KiB
-    (λ c. search needs)
-    (λ c. search units)  -- MiB
-    (λ c. search needs)
-    (λ c. search units))  -- GiB
+    (λ c. search counts-written))

@@ -3,7 +3,7 @@ use Prim.Native.Nat.{_-_}
 use lib.ListN.{length}
 use borrow.Author.Needs.{needs}
 use Rattle.lists.specs.ByteLoopLaws.{FillLoop, fills}
-use Rattle.transcripts.proofs.OverLaws.{filled-over}
+use Rattle.transcripts.proofs.OverLaws.{filled-wrote}
 use Rattle.transcripts.proofs.lines.put_bytes.Statement.{statement}
 use Rattle.transcripts.proofs.lines.put_bytes.Tie as tie
 
@@ -22,4 +22,4 @@ put-bytes-spec =
     (λ c. search fills)
     (λ c. search fills)
     (λ c. search fills)
-    (λ c. search (filled-over, needs)))
+    (λ c. search (filled-wrote, needs)))
