@@ -7,16 +7,17 @@ use mathlib.Core.Logic.{_⊎_, inl, inr, ⊎-elim}
 use Prim.Native.Nat.{ℕ, zero, suc, _+_, _-_, _<_, _≤_}
 use native.Mathlib.Nat.{add-suc, suc-add}
 use native.Mathlib.Omega.{arith}
-use lib.Dec.{eqb}
+use lib.Dec.{eqb, lit<}
 use lib.ListN.{length, getD}
 use borrow.Author.Tests.{eq-eqb, ne-eqb, eqb-true}
 use Rattle.journal.specs.declared.Kind.{Kind}
 use Rattle.journal.specs.declared.Kind.the-variants.{Advance, Create, Deposit, Delete, Undelete, Grant, Attenuate, Revoke, Open, Stage, Commit, Abandon, Remove, Look, Register, Heartbeat}
 use Rattle.journal.specs.declared.Field.{Field}
+use Rattle.journal.specs.declared.Field.the-variants as its
 use Rattle.journal.specs.declared.Named.the-variants as a
 use Rattle.lists.specs.BoolLaws.{and-left, and-right}
 use Rattle.journal.specs.Records.{v01, fieldsOf, kindNumber, kinds, kindAmong}
-use Rattle.journal.specs.Table.{kindPlace, named, namedBy, padded}
+use Rattle.journal.specs.Table.{allFields, fieldNumber, named, namedBy, padded}
 
 -- the kinds are numbered one after another from i
 abbrev pub numberedFrom : ℕ → List Kind → Bool
@@ -64,11 +65,44 @@ module _ (n : ℕ) where
 
 pub ruleset names = (names-none-low, names-none-high, names-kind)
 
--- the fields of the kinds, in the kinds' order
-abbrev pub rows : List (List Field)
-rows = map (λ k. padded (fieldsOf v01 k)) (kinds v01)
+-- the arms of a match on a kind, each with the numbers of its fields
+pub by-kind : (k v : Kind) (l : List ℕ) → k ≡ v → l ≡ map fieldNumber (padded (fieldsOf v01 v)) → l ≡ map fieldNumber (padded (fieldsOf v01 k))
+by-kind k v l e h = rw e h
 
-row : (k : Kind) → getD rows (kindPlace k) [] ≡ padded (fieldsOf v01 k)
+-- the field of a number, whatever stands past the end
+getD-any : {A : Type 0} (l : List A) (i : ℕ) (d d′ : A) → i < length l → getD l i d ≡ getD l i d′
+getD-any [] i d d′ h = absurd (omega arith)
+getD-any (x ∷ l) zero d d′ h = refl
+getD-any (x ∷ l) (suc i) d d′ h = getD-any l i d d′ (omega arith)
+
+pub field-at : (i : ℕ) (d : Field) → i < 13 → getD allFields i d ≡ getD allFields i its.None
+field-at i d h = getD-any allFields i d its.None h
+
+number-most : (f : Field) → fieldNumber f < 13
+number-most its.Account = lit< tt
+number-most its.No = lit< tt
+number-most its.Slot = lit< tt
+number-most its.K = lit< tt
+number-most its.M = lit< tt
+number-most its.Text = lit< tt
+number-most its.Amount = lit< tt
+number-most its.Hash = lit< tt
+number-most its.Mode = lit< tt
+number-most its.Cap = lit< tt
+number-most its.From = lit< tt
+number-most its.Until = lit< tt
+number-most its.None = lit< tt
+
+numbers-most : (l : List Field) (i : ℕ) → getD (map fieldNumber l) i 0 < 13
+numbers-most [] i = lit< tt
+numbers-most (f ∷ l) zero = number-most f
+numbers-most (f ∷ l) (suc i) = numbers-most l i
+
+-- the fields of a kind by their numbers n
+abbrev fieldIn : List ℕ → ℕ → Field
+fieldIn n i = getD allFields (getD n i 0) its.None
+
+row : (k : Kind) → (let n = map fieldNumber (padded (fieldsOf v01 k)) in fieldIn n 0 ∷ fieldIn n 1 ∷ fieldIn n 2 ∷ fieldIn n 3 ∷ fieldIn n 4 ∷ fieldIn n 5 ∷ fieldIn n 6 ∷ []) ≡ padded (fieldsOf v01 k)
 row Advance = refl
 row Create = refl
 row Deposit = refl
@@ -86,5 +120,10 @@ row Look = refl
 row Register = refl
 row Heartbeat = refl
 
-pub row-at : (k : Kind) (i : ℕ) → i ≡ kindPlace k → getD rows i [] ≡ padded (fieldsOf v01 k)
-row-at k i e = ap (λ (j : ℕ). getD rows j []) e ∙ row k
+module _ (k : Kind) (n : List ℕ) (h : n ≡ map fieldNumber (padded (fieldsOf v01 k))) where
+  pub number-below : (i : ℕ) → getD n i 0 < 13
+  number-below i = rw h (numbers-most (padded (fieldsOf v01 k)) i)
+
+  pub fields-made : (xa xb xc xd xe xf xg : Field) → xa ≡ getD allFields (getD n 0 0) its.None → xb ≡ getD allFields (getD n 1 0) its.None → xc ≡ getD allFields (getD n 2 0) its.None → xd ≡ getD allFields (getD n 3 0) its.None → xe ≡ getD allFields (getD n 4 0) its.None → xf ≡ getD allFields (getD n 5 0) its.None → xg ≡ getD allFields (getD n 6 0) its.None
+      → (xa ∷ xb ∷ xc ∷ xd ∷ xe ∷ xf ∷ xg ∷ []) ≡ padded (fieldsOf v01 k)
+  fields-made xa xb xc xd xe xf xg ea eb ec ed ee ef eg = rw (ea, eb, ec, ed, ee, ef, eg, h) (row k)

@@ -1,8 +1,8 @@
--- How the code's answers stand for the definitions: a kind that a number names, a kind's place in the tables, its fields in an array of seven, a
+-- How the code's answers stand for the definitions: a kind that a number names, the number of a field, a kind's fields in an array of seven, a
 -- number at a place, one field read. Assumes nothing.
 use mathlib.Core.List.{List, [], _∷_, _++_}
 use mathlib.Core.Option.{Option, none, some}
-use Prim.Native.Nat.{ℕ, pred, _+_, _-_}
+use Prim.Native.Nat.{ℕ, _+_, _-_}
 use lib.ListN.{length, drop, replicate}
 use Rattle.journal.specs.declared.Kind.{Kind}
 use Rattle.journal.specs.declared.Field.{Field}
@@ -17,7 +17,7 @@ use Rattle.journal.specs.declared.Record.{Record}
 use Rattle.journal.specs.declared.Reading.{Reading}
 use Rattle.journal.specs.declared.Reading.the-variants as answer
 use Rattle.journal.specs.Fields.{Format, number, text, bytes, cap, mode, Decoded, nothing, found, ValueOf, ValuesOf, decodeNumber, decodeAll, encode}
-use Rattle.journal.specs.Records.{Version, v01, formatOf, formsOf, fieldsOf, kindNumber, kindNumbered}
+use Rattle.journal.specs.Records.{Version, v01, formatOf, formsOf, fieldsOf, kindNumbered}
 use Rattle.journal.specs.Places.{RECORD, place, placeAll}
 
 abbrev pub namedBy : Option Kind → Named
@@ -28,9 +28,24 @@ namedBy (some k) = a.Kind k
 unfoldable pub named : ℕ → Named
 named n = namedBy (kindNumbered v01 n)
 
--- the place of a kind in the tables, from 0: kinds are numbered from 1
-abbrev pub kindPlace : Kind → ℕ
-kindPlace k = pred (kindNumber k)
+-- the fields, and the number of each: its place among them
+abbrev pub allFields : List Field
+allFields = its.Account ∷ its.No ∷ its.Slot ∷ its.K ∷ its.M ∷ its.Text ∷ its.Amount ∷ its.Hash ∷ its.Mode ∷ its.Cap ∷ its.From ∷ its.Until ∷ its.None ∷ []
+
+abbrev pub fieldNumber : Field → ℕ
+fieldNumber its.Account = 0
+fieldNumber its.No = 1
+fieldNumber its.Slot = 2
+fieldNumber its.K = 3
+fieldNumber its.M = 4
+fieldNumber its.Text = 5
+fieldNumber its.Amount = 6
+fieldNumber its.Hash = 7
+fieldNumber its.Mode = 8
+fieldNumber its.Cap = 9
+fieldNumber its.From = 10
+fieldNumber its.Until = 11
+fieldNumber its.None = 12
 
 -- the most fields that a kind has
 abbrev pub fieldsMost : ℕ

@@ -1,9 +1,10 @@
 // The table of document 01's calls: each kind's number and its list of fields.
 ghost use mathlib.Core.Path.{_≡_};
+ghost use mathlib.Core.List.{map};
 ghost use Prim.Native.Nat.{_<_, _≤_};
-ghost use lib.ListN.{length};
+ghost use lib.ListN.{length, getD};
 ghost use Rattle.journal.specs.Records.{v01, fieldsOf};
-ghost use Rattle.journal.specs.Table.{kindPlace, named, padded};
+ghost use Rattle.journal.specs.Table.{allFields, fieldNumber, named, padded};
 use super::Field;
 use super::Field as F;
 use super::Kind;
@@ -67,141 +68,93 @@ pub fn field_count(kind: Kind) -> usize
     }
 }
 
-// A kind's place in the tables, from 0.
-fn kind_place(kind: Kind) -> usize
-    ensures { λ r. ⌜ (r ≡ kindPlace kind) × (r < 16) ⌝ }
+// The fields, each at its number.
+const FIELDS: [Field; 13] = [
+    F::Account,
+    F::No,
+    F::Slot,
+    F::K,
+    F::M,
+    F::Text,
+    F::Amount,
+    F::Hash,
+    F::Mode,
+    F::Cap,
+    F::From,
+    F::Until,
+    F::None,
+];
+
+const ACCOUNT: usize = 0;
+
+const NO: usize = 1;
+
+const SLOT: usize = 2;
+
+const K: usize = 3;
+
+const M: usize = 4;
+
+const TEXT: usize = 5;
+
+const AMOUNT: usize = 6;
+
+const HASH: usize = 7;
+
+const MODE: usize = 8;
+
+const CAP: usize = 9;
+
+const FROM: usize = 10;
+
+const UNTIL: usize = 11;
+
+const NONE: usize = 12;
+
+// The field of a number.
+fn field_numbered(i: usize) -> Field
+    requires { ⌜ i < 13 ⌝ }
+    ensures { λ r. ⌜ r ≡ getD allFields i Field.None ⌝ }
+{
+    FIELDS[i]
+}
+
+// Each kind's fields in order, by their numbers, filled up with that of `None`.
+fn field_numbers(kind: Kind) -> [usize; 7]
+    ensures { λ r. ⌜ r ≡ map fieldNumber (padded (fieldsOf v01 kind)) ⌝ }
 {
     match kind {
-        Kind::Advance => 0,
-        Kind::Create => 1,
-        Kind::Deposit => 2,
-        Kind::Delete => 3,
-        Kind::Undelete => 4,
-        Kind::Grant => 5,
-        Kind::Attenuate => 6,
-        Kind::Revoke => 7,
-        Kind::Open => 8,
-        Kind::Stage => 9,
-        Kind::Commit => 10,
-        Kind::Abandon => 11,
-        Kind::Remove => 12,
-        Kind::Look => 13,
-        Kind::Register => 14,
-        Kind::Heartbeat => 15,
+        Kind::Advance => [AMOUNT, NONE, NONE, NONE, NONE, NONE, NONE],
+        Kind::Create => [ACCOUNT, TEXT, K, M, CAP, NONE, NONE],
+        Kind::Deposit => [NO, AMOUNT, NONE, NONE, NONE, NONE, NONE],
+        Kind::Delete => [ACCOUNT, NO, NONE, NONE, NONE, NONE, NONE],
+        Kind::Undelete => [ACCOUNT, NO, NONE, NONE, NONE, NONE, NONE],
+        Kind::Grant => [ACCOUNT, NO, TEXT, MODE, CAP, FROM, UNTIL],
+        Kind::Attenuate => [NO, TEXT, MODE, CAP, FROM, UNTIL, NONE],
+        Kind::Revoke => [ACCOUNT, NO, NONE, NONE, NONE, NONE, NONE],
+        Kind::Open => [SLOT, NO, NONE, NONE, NONE, NONE, NONE],
+        Kind::Stage => [SLOT, TEXT, AMOUNT, HASH, NONE, NONE, NONE],
+        Kind::Commit => [SLOT, NONE, NONE, NONE, NONE, NONE, NONE],
+        Kind::Abandon => [SLOT, NONE, NONE, NONE, NONE, NONE, NONE],
+        Kind::Remove => [ACCOUNT, NO, TEXT, NONE, NONE, NONE, NONE],
+        Kind::Look => [NO, TEXT, NONE, NONE, NONE, NONE, NONE],
+        Kind::Register => [AMOUNT, NONE, NONE, NONE, NONE, NONE, NONE],
+        Kind::Heartbeat => [NO, NONE, NONE, NONE, NONE, NONE, NONE],
     }
 }
 
 // Each kind's fields in order, filled up with `None`.
-const FIELDS: [[Field; 7]; 16] = [
-    [
-        F::Amount,
-        F::None,
-        F::None,
-        F::None,
-        F::None,
-        F::None,
-        F::None,
-    ],
-    [F::Account, F::Text, F::K, F::M, F::Cap, F::None, F::None],
-    [
-        F::No,
-        F::Amount,
-        F::None,
-        F::None,
-        F::None,
-        F::None,
-        F::None,
-    ],
-    [
-        F::Account,
-        F::No,
-        F::None,
-        F::None,
-        F::None,
-        F::None,
-        F::None,
-    ],
-    [
-        F::Account,
-        F::No,
-        F::None,
-        F::None,
-        F::None,
-        F::None,
-        F::None,
-    ],
-    [
-        F::Account,
-        F::No,
-        F::Text,
-        F::Mode,
-        F::Cap,
-        F::From,
-        F::Until,
-    ],
-    [F::No, F::Text, F::Mode, F::Cap, F::From, F::Until, F::None],
-    [
-        F::Account,
-        F::No,
-        F::None,
-        F::None,
-        F::None,
-        F::None,
-        F::None,
-    ],
-    [F::Slot, F::No, F::None, F::None, F::None, F::None, F::None],
-    [
-        F::Slot,
-        F::Text,
-        F::Amount,
-        F::Hash,
-        F::None,
-        F::None,
-        F::None,
-    ],
-    [
-        F::Slot,
-        F::None,
-        F::None,
-        F::None,
-        F::None,
-        F::None,
-        F::None,
-    ],
-    [
-        F::Slot,
-        F::None,
-        F::None,
-        F::None,
-        F::None,
-        F::None,
-        F::None,
-    ],
-    [
-        F::Account,
-        F::No,
-        F::Text,
-        F::None,
-        F::None,
-        F::None,
-        F::None,
-    ],
-    [F::No, F::Text, F::None, F::None, F::None, F::None, F::None],
-    [
-        F::Amount,
-        F::None,
-        F::None,
-        F::None,
-        F::None,
-        F::None,
-        F::None,
-    ],
-    [F::No, F::None, F::None, F::None, F::None, F::None, F::None],
-];
-
 pub fn fields_of(kind: Kind) -> [Field; 7]
     ensures { λ r. ⌜ r ≡ padded (fieldsOf v01 kind) ⌝ }
 {
-    let i = kind_place(kind);
-    FIELDS[i]
+    let n = field_numbers(kind);
+    [
+        field_numbered(n[0]),
+        field_numbered(n[1]),
+        field_numbered(n[2]),
+        field_numbered(n[3]),
+        field_numbered(n[4]),
+        field_numbered(n[5]),
+        field_numbered(n[6]),
+    ]
 }

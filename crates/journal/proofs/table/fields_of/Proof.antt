@@ -1,6 +1,6 @@
--- `fields_of` meets its contract: the table is the kinds' lists of fields. Assumes nothing.
-use Rattle.journal.proofs.TableLaws.{row-at}
+-- `fields_of` meets its contract: each field is that of its number. Assumes nothing.
 use borrow.Author.Needs.{needs}
+use Rattle.journal.proofs.TableLaws.{number-below, fields-made}
 use Rattle.journal.proofs.table.fields_of.Statement.{statement}
 use Rattle.journal.proofs.table.fields_of.Tie as tie
 
@@ -10,5 +10,17 @@ fields-of-spec =
     (tie.spec
     (λ c κs. search needs)
     (λ c. search needs)
+    (λ c κs. search number-below)
     (λ c. search needs)
-    (λ c. search row-at))
+    (λ c κs. search number-below)
+    (λ c. search needs)
+    (λ c κs. search number-below)
+    (λ c. search needs)
+    (λ c κs. search number-below)
+    (λ c. search needs)
+    (λ c κs. search number-below)
+    (λ c. search needs)
+    (λ c κs. search number-below)
+    (λ c. search needs)
+    (λ c κs. search number-below)
+    (λ c. search fields-made))
