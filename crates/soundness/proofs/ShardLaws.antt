@@ -9,14 +9,15 @@ use borrow.Author.Needs.{needs}
 use native.Mathlib.Omega.{arith}
 use borrow.Author.Tests.{ltb-true, leb-true, eqb-true, ne-eqb}
 use lib.Dec.{eqb, leb}
-use lib.ListN.{length, getD}
+use lib.ListN.{length, getD, set, replicate, length-map, getD-replicate}
 use Rattle.lists.specs.Lists.{Hit, allOf, noClash, find, hit, miss, sumOf}
 use Rattle.lists.specs.SumLaws.{bit-lt, sum-le}
 use Rattle.lists.specs.LoopLaws.{SumLoop, sum-start, sum-adds, sum-skips, sum-within, sum-all}
 use Rattle.lists.specs.RowLaws.{rows-length, map-row}
 use Rattle.lists.specs.BoolLaws.{and-left, and-right}
-use Rattle.lists.specs.SearchLaws.{found-below, found-at, row-passes}
-use Rattle.lists.specs.TestLaws.{all-at}
+use Rattle.lists.specs.SearchLaws.{found-below, found-at, row-passes, none-miss}
+use Rattle.lists.specs.ByteLoopLaws.{FillLoop, fill-same, fill-step-of}
+use Rattle.lists.specs.TestLaws.{all-at, at-none}
 use Rattle.text.specs.Text.{within, isName, isPath, holds}
 use Rattle.rules.specs.declared.Volume.{Volume}
 use Rattle.rules.specs.declared.Entry.{Entry}
@@ -35,6 +36,22 @@ use Rattle.rows.specs.Blank.{blankVolume, blankEntry}
 used-row : (free rest : Bool) → free ≡ false → (free || rest) ≡ true → rest ≡ true
 used-row true rest e h = absurd (let z : _≡_ {A = ℕ} 0 1 = cc in omega arith)
 used-row false rest e h = h
+
+-- a free row's shards have no bytes, so that 0 may stand for them
+free-size : (vs : List Volume) (e : Entry) → e .volume .0 ≡ 0 → shardBytes vs e ≡ 0
+free-size vs e h = shard-none vs e (none-miss (isVolume (e .volume)) vs 0 (at-none (isVolume (e .volume)) vs blankVolume (λ j k. rw h)))
+
+-- a turn of the loop that stores the sizes: a free row's is there already
+module _ (vs : List Volume) (es : List Entry) (i : ℕ) (out next : List ℕ) (h : FillLoop (replicate 64 0) 0 (map (shardBytes vs) es) 64 i out) (k : i < 64) where
+  pub size-skipped : getD es i blankEntry .volume .0 ≡ 0 → next ≡ out → FillLoop (replicate 64 0) 0 (map (shardBytes vs) es) 64 (i + 1) next
+  size-skipped e q =
+      rw q
+      (fill-same (replicate 64 0) (map (shardBytes vs) es) 64 i out 0 h k
+      (map-row (shardBytes vs) es i blankEntry 0 (omega (arith, h .source, length-map es (shardBytes vs))) ∙ free-size vs (getD es i blankEntry) e
+      ∙ sym (getD-replicate 64 i 0 0 k)))
+
+  pub size-stored : (x : ℕ) → x ≡ shardBytes vs (getD es i blankEntry) → next ≡ set out i x → FillLoop (replicate 64 0) 0 (map (shardBytes vs) es) 64 (i + 1) next
+  size-stored x e q = rw q (fill-step-of (shardBytes vs) blankEntry (replicate 64 0) es 64 i out x h k e)
 
 -- a sound volume in use has a K that is not 0
 least-k : (t : Tables) (v : Volume) → 0 < v .no .0 → soundVolume t v ≡ true → 1 ≤ v .k

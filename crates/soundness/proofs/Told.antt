@@ -2,7 +2,7 @@
 use mathlib.Core.Path.{_≡_, refl, sym, _∙_}
 use mathlib.Core.Bool.{Bool, true, false, not, _&&_, and-assoc}
 use mathlib.Core.List.{List}
-use Prim.Native.Nat.{ℕ, _≤_}
+use Prim.Native.Nat.{ℕ, _+_, _<_, _≤_}
 use borrow.Author.Tests.{ne-eqb, le-leb, not-false, not-true}
 use lib.Dec.{leb}
 use lib.ListN.{getD}
@@ -17,15 +17,17 @@ use Rattle.lists.specs.SearchLaws.{first-row, first-miss}
 use Rattle.rules.specs.declared.RelayNo.{RelayNo}
 use Rattle.rules.specs.declared.VolumeNo.{VolumeNo}
 use Rattle.rules.specs.Tables.{isVolume}
-use Rattle.rows.specs.Blank.{blankVolume}
+use Rattle.rows.specs.Blank.{blankVolume, blankRelay}
+use Rattle.lists.specs.LoopLaws.{AllLoop, all-step}
 use Rattle.rules.specs.declared.Placement.{Placement}
 use Rattle.rules.specs.declared.Volume.{Volume}
 use Rattle.rules.specs.declared.Token.{Token}
 use Rattle.rules.specs.declared.Entry.{Entry}
+use Rattle.rules.specs.declared.Relay.{Relay}
 use Rattle.rules.specs.declared.Session.{Session}
 use Rattle.rules.specs.declared.Status.{Status}
 use Rattle.rules.specs.declared.Tables.{Tables}
-use Rattle.rules.specs.Sound.{soundGrace, soundVolume, soundToken, soundEntry, soundSession, soundIn, parentThere, relayGiven, soundPlacement, isGiven, volumeThere}
+use Rattle.rules.specs.Sound.{soundGrace, soundVolume, soundToken, soundEntry, soundRelay, soundSession, soundIn, parentThere, relayGiven, soundPlacement, isGiven, volumeThere}
 
 module _ (t : Tables) (b : Bool) where
   pub volume-told : (v : Volume) → ((u : Tables) → u .«last_volume» ≡ t .«last_volume» → u .clock ≡ t .clock → b ≡ soundVolume u v) → b ≡ soundVolume t v
@@ -71,6 +73,12 @@ pub token-passed : (t : Tables) (k : Token) (x fits there parent : Bool) (vs : L
 unfolding soundToken volumeThere
 token-passed t k x fits there parent vs rows last n used e f g a a′ b b′ p′ p d d′ w =
     rw (ne-eqb (k .no .0) 0 used, ← p, not-false parent p′, e, f, g, ← a, not-false fits a′, ← b, not-false there b′, ← d, le-leb n deepest d′) w
+
+-- a free relay's row passes
+pub relay-skipped : (t : Tables) (rows : List Relay) (i : ℕ) → AllLoop (soundRelay t) rows 32 i → i < 32 → getD rows i blankRelay .no .0 ≡ 0
+    → AllLoop (soundRelay t) rows 32 (i + 1)
+unfolding soundRelay
+relay-skipped t rows i h k e = all-step blankRelay (soundRelay t) rows 32 i true h k (sym (rw e)) refl
 
 -- the grace count of a status that is known
 pub by-status : (s k : Status) (x : Bool) (grace : ℕ) → s ≡ k → x ≡ soundGrace k grace → x ≡ soundGrace s grace

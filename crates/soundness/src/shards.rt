@@ -18,7 +18,7 @@ pub(crate) struct Load {
     pub shards: u32,
 }
 
-// The bytes of each entry's shards.
+// The bytes of each entry's shards: 0 of a free row.
 pub(crate) fn shard_sizes(t: Tables) -> [u64; 64]
     ensures { λ r. ⌜ r ≡ map (shardBytes (t .volumes)) (t .entries) ⌝ }
 {
@@ -27,8 +27,10 @@ pub(crate) fn shard_sizes(t: Tables) -> [u64; 64]
     let mut sizes = [0u64; 64];
     let mut i: usize = 0;
     while i < 64 {
-        let e = entries[i];
-        sizes[i] = shard_bytes(volumes, e);
+        if entries[i].volume.0 != 0 {
+            let e = entries[i];
+            sizes[i] = shard_bytes(volumes, e);
+        }
         i += 1;
     }
     sizes

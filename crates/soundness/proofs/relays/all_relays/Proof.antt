@@ -1,7 +1,9 @@
 -- `relays::all_relays` meets its contract: at each row the rest decides. Assumes nothing.
+use mathlib.Core.Logic.{⊎-elim}
 use Prim.Native.Nat.{_-_}
 use Rattle.rules.specs.Sound.{soundRelay}
 use Rattle.lists.specs.LoopLaws.{AllLoop, alls}
+use Rattle.soundness.proofs.Told.{relay-skipped}
 use Rattle.soundness.proofs.relays.all_relays.Statement.{statement}
 use Rattle.soundness.proofs.relays.all_relays.Tie as tie
 
@@ -19,5 +21,5 @@ all-relays-spec =
     (λ c. search alls)
     (λ c. search alls)
     (λ c. search alls)
-    (λ c. search alls)
+    (λ c. ⊎-elim (λ w. search alls) (λ w. search relay-skipped) (c .if1 .came))
     (λ c. search alls))
