@@ -1,2 +1,4 @@
+pub mod FillLaws
+pub mod KeyLaws
 pub mod ShardLaws
 pub mod Told

@@ -9,14 +9,14 @@ use borrow.Author.Needs.{needs}
 use native.Mathlib.Omega.{arith}
 use borrow.Author.Tests.{ltb-true, leb-true, eqb-true, ne-eqb}
 use lib.Dec.{eqb, leb}
-use lib.ListN.{length, getD, set, replicate, length-map, getD-replicate}
+use lib.ListN.{length, getD, set, replicate}
 use Rattle.lists.specs.Lists.{Hit, allOf, noClash, find, hit, miss, sumOf}
 use Rattle.lists.specs.SumLaws.{bit-lt, sum-le}
 use Rattle.lists.specs.LoopLaws.{SumLoop, sum-start, sum-adds, sum-skips, sum-within, sum-all}
 use Rattle.lists.specs.RowLaws.{rows-length, map-row}
 use Rattle.lists.specs.BoolLaws.{and-left, and-right}
 use Rattle.lists.specs.SearchLaws.{found-below, found-at, row-passes, none-miss}
-use Rattle.lists.specs.ByteLoopLaws.{FillLoop, fill-same, fill-step-of}
+use Rattle.lists.specs.ByteLoopLaws.{FillLoop}
 use Rattle.lists.specs.TestLaws.{all-at, at-none}
 use Rattle.text.specs.Text.{within, isName, isPath, holds}
 use Rattle.rules.specs.declared.Volume.{Volume}
@@ -30,6 +30,7 @@ use Rattle.rules.specs.Relays.{shardBytes, holdsShard, bytesOn, shardsOn}
 use Rattle.rules.specs.Sound.{isGiven, shardsFit, soundStatus, soundVolume, soundVolumes, sameVolume, sameName, soundIn, soundEntry, soundEntries, sameEntry}
 use Rattle.rules.specs.Laws.CeilLaws.{ceil-most}
 use Rattle.rows.specs.ShardBytes.{shard-none, shard-some}
+use Rattle.soundness.proofs.FillLaws.{fill-zero, fill-stored}
 use Rattle.rows.specs.Blank.{blankVolume, blankEntry}
 
 -- a used row that is sound passes what comes after the test for a free one
@@ -44,14 +45,10 @@ free-size vs e h = shard-none vs e (none-miss (isVolume (e .volume)) vs 0 (at-no
 -- a turn of the loop that stores the sizes: a free row's is there already
 module _ (vs : List Volume) (es : List Entry) (i : ℕ) (out next : List ℕ) (h : FillLoop (replicate 64 0) 0 (map (shardBytes vs) es) 64 i out) (k : i < 64) where
   pub size-skipped : getD es i blankEntry .volume .0 ≡ 0 → next ≡ out → FillLoop (replicate 64 0) 0 (map (shardBytes vs) es) 64 (i + 1) next
-  size-skipped e q =
-      rw q
-      (fill-same (replicate 64 0) (map (shardBytes vs) es) 64 i out 0 h k
-      (map-row (shardBytes vs) es i blankEntry 0 (omega (arith, h .source, length-map es (shardBytes vs))) ∙ free-size vs (getD es i blankEntry) e
-      ∙ sym (getD-replicate 64 i 0 0 k)))
+  size-skipped e q = fill-zero (shardBytes vs) blankEntry es 64 i out next h k (free-size vs (getD es i blankEntry) e) q
 
   pub size-stored : (x : ℕ) → x ≡ shardBytes vs (getD es i blankEntry) → next ≡ set out i x → FillLoop (replicate 64 0) 0 (map (shardBytes vs) es) 64 (i + 1) next
-  size-stored x e q = rw q (fill-step-of (shardBytes vs) blankEntry (replicate 64 0) es 64 i out x h k e)
+  size-stored x e q = fill-stored (shardBytes vs) blankEntry es 64 i out next h k x e q
 
 -- a sound volume in use has a K that is not 0
 least-k : (t : Tables) (v : Volume) → 0 < v .no .0 → soundVolume t v ≡ true → 1 ≤ v .k

@@ -1,10 +1,14 @@
 // The entry table, row by row and against itself.
 ghost use mathlib.Core.Path.{_≡_};
-ghost use lib.ListN.{drop};
+ghost use Prim.Native.Nat.{_+_, _<_};
+ghost use lib.ListN.{drop, getD};
 ghost use Rattle.lists.specs.Lists.{allOf, anyOf, noClash, find};
+ghost use Rattle.rows.specs.Blank.{blankEntry};
 ghost use Rattle.rules.specs.declared.Tables.{Tables};
 ghost use Rattle.rules.specs.Tables.{isVolume};
 ghost use Rattle.rules.specs.Sound.{soundIn, soundEntry, soundEntries, sameEntry};
+use super::numbers::number_again;
+use super::path_keys::path_keys;
 use super::placements::sound_placement;
 use lists::Found;
 use rows::find_volume;
@@ -88,15 +92,27 @@ fn path_again(rows: [Entry; 64], a: Entry, start: usize) -> bool
     false
 }
 
+// Whether a row after this one has the same volume and path.
+fn clashes_at(rows: [Entry; 64], i: usize) -> bool
+    requires { ⌜ i < 64 ⌝ }
+    ensures { λ r. ⌜ r ≡ anyOf (sameEntry (getD rows i blankEntry)) (drop (i + 1) rows) ⌝ }
+{
+    let e = rows[i];
+    path_again(rows, e, i + 1)
+}
+
 // No volume's path is held twice.
 fn paths_differ(rows: [Entry; 64]) -> bool
     ensures { λ r. ⌜ r ≡ noClash sameEntry rows ⌝ }
 {
+    let keys = path_keys(rows);
     let mut i: usize = 0;
     while i < 64 {
-        let e = rows[i];
-        if path_again(rows, e, i + 1) {
-            return false;
+        let key = keys[i];
+        if number_again(&keys, key, i + 1) {
+            if clashes_at(rows, i) {
+                return false;
+            }
         }
         i += 1;
     }
