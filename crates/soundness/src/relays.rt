@@ -2,13 +2,14 @@
 ghost use mathlib.Core.Path.{_≡_};
 ghost use mathlib.Core.Bool.{true};
 ghost use mathlib.Core.List.{map};
-ghost use Rattle.lists.specs.Lists.{allOf, noClash, sumOf};
+ghost use Rattle.lists.specs.Lists.{allOf, sumOf};
 ghost use Rattle.rules.specs.Relays.{shardBytes, bytesOn, shardsOn};
-ghost use Rattle.rules.specs.Sound.{soundVolumes, soundEntries, soundRelay, soundRelays, sameRelayRow};
+ghost use Rattle.rules.specs.Sound.{soundVolumes, soundEntries, soundRelay, soundRelays};
+use super::numbers::numbers_differ;
+use super::numbers::relay_numbers;
 use super::shards::Load;
 use super::shards::load_of;
 use super::shards::shard_sizes;
-use rows::any_relay;
 use rows::is_given;
 use rules::Relay;
 use rules::Tables;
@@ -59,22 +60,6 @@ fn all_relays(t: Tables, sizes: [u64; 64]) -> bool
     true
 }
 
-// No number is held twice.
-fn numbers_differ(rows: [Relay; 32]) -> bool
-    ensures { λ r. ⌜ r ≡ noClash sameRelayRow rows ⌝ }
-{
-    let mut i: usize = 0;
-    while i < 32 {
-        let x = rows[i];
-        let n = x.no;
-        if any_relay(rows, n, i + 1) {
-            return false;
-        }
-        i += 1;
-    }
-    true
-}
-
 pub(crate) fn sound_relays(t: Tables) -> bool
     requires { ⌜ (soundVolumes t ≡ true) × (soundEntries t ≡ true) ⌝ }
     ensures { λ r. ⌜ r ≡ soundRelays t ⌝ }
@@ -84,5 +69,6 @@ pub(crate) fn sound_relays(t: Tables) -> bool
         return false;
     }
     let rows = t.relays;
-    numbers_differ(rows)
+    let numbers = relay_numbers(rows);
+    numbers_differ(&numbers)
 }

@@ -2,11 +2,13 @@
 ghost use mathlib.Core.Path.{_≡_};
 ghost use mathlib.Core.Bool.{_&&_};
 ghost use lib.Dec.{leb};
-ghost use Rattle.lists.specs.Lists.{allOf, noClash};
+ghost use Rattle.lists.specs.Lists.{allOf};
 ghost use Rattle.rules.specs.declared.Tables.{Tables};
 ghost use Rattle.text.specs.Text.{holds, isPrefix};
 ghost use Rattle.rules.specs.Scope.{capFits};
-ghost use Rattle.rules.specs.Sound.{isGiven, parentThere, soundToken, soundTokens, sameToken};
+ghost use Rattle.rules.specs.Sound.{isGiven, parentThere, soundToken, soundTokens};
+use super::numbers::numbers_differ;
+use super::numbers::token_numbers;
 use rows::any_token;
 use rows::any_volume;
 use rows::cap_fits;
@@ -86,22 +88,6 @@ fn all_tokens(t: Tables) -> bool
     true
 }
 
-// No number is held twice.
-fn numbers_differ(rows: [Token; 32]) -> bool
-    ensures { λ r. ⌜ r ≡ noClash sameToken rows ⌝ }
-{
-    let mut i: usize = 0;
-    while i < 32 {
-        let k = rows[i];
-        let n = k.no;
-        if any_token(rows, n, i + 1) {
-            return false;
-        }
-        i += 1;
-    }
-    true
-}
-
 pub(crate) fn sound_tokens(t: Tables) -> bool
     ensures { λ r. ⌜ r ≡ soundTokens t ⌝ }
 {
@@ -109,5 +95,6 @@ pub(crate) fn sound_tokens(t: Tables) -> bool
         return false;
     }
     let rows = t.tokens;
-    numbers_differ(rows)
+    let numbers = token_numbers(rows);
+    numbers_differ(&numbers)
 }

@@ -1,5 +1,6 @@
 use Rattle.rules.specs.Sound.{soundRelays}
 use Rattle.lists.specs.AnswerLaws.{refused, passed}
+use Rattle.soundness.proofs.NumberLaws.{relays-differ}
 use borrow.Author.Needs.{needs}
 use Rattle.soundness.proofs.relays.sound_relays.Statement.{statement}
 use Rattle.soundness.proofs.relays.sound_relays.Tie as tie
@@ -13,4 +14,6 @@ sound-relays-spec =
     (λ c κs. search needs)
     (λ c. search refused depth 9)
     (λ c κs. search needs)
-    (λ c. search passed depth 9))
+    (λ c. search needs)
+    (λ c κs. search needs)
+    (λ c. search (passed, relays-differ) depth 9))
