@@ -1,14 +1,18 @@
 -- Tests of a table's rows by their numbers alone, where the numbers stand in a list of their own. Assumes nothing.
 use mathlib.Core.Path.{_≡_, refl, sym, _∙_}
-use mathlib.Core.Bool.{Bool}
+use mathlib.Core.Bool.{Bool, true, false, not, _&&_}
 use mathlib.Core.List.{List, [], _∷_, map}
-use Prim.Native.Nat.{ℕ}
-use Rattle.lists.specs.Lists.{anyOf, noClash}
+use Prim.Native.Nat.{ℕ, _<_, _≤_}
+use borrow.Author.Tests.{not-true, not-false}
+use lib.ListN.{getD}
+use Rattle.lists.specs.Lists.{allOf, anyOf, noClash}
+use Rattle.lists.specs.BoolLaws.{and-both}
+use Rattle.lists.specs.LoopLaws.{AllLoop, all-failed, all-passed}
 use Rattle.rules.specs.declared.Volume.{Volume}
-use Rattle.rules.specs.declared.Token.{Token}
-use Rattle.rules.specs.declared.Relay.{Relay}
+use Rattle.rules.specs.declared.Tables.{Tables}
 use Rattle.rules.specs.Tables.{numbered}
-use Rattle.rules.specs.Sound.{sameVolume, sameToken, sameRelayRow}
+use Rattle.rules.specs.Sound.{sameVolume, sameToken, sameRelayRow, soundToken, soundTokens, soundRelay, soundRelays}
+use Rattle.rows.specs.Blank.{blankToken, blankRelay}
 use Rattle.soundness.specs.Numbers.{volumeNumber, tokenNumber, relayNumber}
 
 module _ {A : Type 0} (f : A → ℕ) where
@@ -22,13 +26,46 @@ module _ {A : Type 0} (f : A → ℕ) where
   clash-mapped clash [] = refl
   clash-mapped clash (x ∷ xs) = rw (any-mapped (clash (f x)) xs, clash-mapped clash xs)
 
--- the numbers differ: b is what the test of them said
-module _ (b : Bool) (ns : List ℕ) (h : b ≡ noClash numbered ns) where
-  pub volumes-differ : (l : List Volume) → ns ≡ map volumeNumber l → b ≡ noClash sameVolume l
-  volumes-differ l e = rw e at h ∙ clash-mapped volumeNumber numbered l
+-- b is what the test of the numbers said
+pub volumes-differ : (b : Bool) (ns : List ℕ) (l : List Volume) → b ≡ noClash numbered ns → ns ≡ map volumeNumber l → b ≡ noClash sameVolume l
+volumes-differ b ns l h e = rw e at h ∙ clash-mapped volumeNumber numbered l
 
-  pub tokens-differ : (l : List Token) → ns ≡ map tokenNumber l → b ≡ noClash sameToken l
-  tokens-differ l e = rw e at h ∙ clash-mapped tokenNumber numbered l
+-- two parts of a test
+first-fails : (a b : Bool) → a ≡ false → false ≡ (a && b)
+first-fails a b e = sym (rw e)
 
-  pub relays-differ : (l : List Relay) → ns ≡ map relayNumber l → b ≡ noClash sameRelayRow l
-  relays-differ l e = rw e at h ∙ clash-mapped relayNumber numbered l
+next-fails : (a b : Bool) → b ≡ false → false ≡ (a && b)
+next-fails true b e = sym e
+next-fails false b e = refl
+
+-- the tokens' test, by the test of their numbers and the loop over their rows
+module _ (t : Tables) (b : Bool) where
+  pub token-fails : (i : ℕ) → AllLoop (soundToken t) (t .tokens) 32 i → i < 32 → b ≡ soundToken t (getD (t .tokens) i blankToken) → not b ≡ true
+      → false ≡ soundTokens t
+  unfolding soundTokens
+  token-fails i h k e w = first-fails (allOf (soundToken t) (t .tokens)) (noClash sameToken (t .tokens)) (sym (all-failed blankToken (soundToken t) (t .tokens) 32 i b h k e w))
+
+  module _ (ns : List ℕ) (h : b ≡ noClash numbered ns) (e : ns ≡ map tokenNumber (t .tokens)) where
+    differ : b ≡ noClash sameToken (t .tokens)
+    differ = rw e at h ∙ clash-mapped tokenNumber numbered (t .tokens)
+
+    pub tokens-clash : not b ≡ true → false ≡ soundTokens t
+    unfolding soundTokens
+    tokens-clash w = next-fails (allOf (soundToken t) (t .tokens)) (noClash sameToken (t .tokens)) (sym differ ∙ not-true b w)
+
+    pub tokens-hold : (i : ℕ) → AllLoop (soundToken t) (t .tokens) 32 i → 32 ≤ i → not b ≡ false → true ≡ soundTokens t
+    unfolding soundTokens
+    tokens-hold i l k w = sym (and-both (sym (all-passed (soundToken t) (t .tokens) 32 i l k)) (sym differ ∙ not-false b w))
+
+-- the relays' test
+module _ (t : Tables) (b : Bool) where
+  pub relay-fails : (i : ℕ) → AllLoop (soundRelay t) (t .relays) 32 i → i < 32 → b ≡ soundRelay t (getD (t .relays) i blankRelay) → not b ≡ true
+      → false ≡ soundRelays t
+  unfolding soundRelays
+  relay-fails i h k e w = first-fails (allOf (soundRelay t) (t .relays)) (noClash sameRelayRow (t .relays)) (sym (all-failed blankRelay (soundRelay t) (t .relays) 32 i b h k e w))
+
+  pub relays-hold : (i : ℕ) (ns : List ℕ) → AllLoop (soundRelay t) (t .relays) 32 i → 32 ≤ i → ns ≡ map relayNumber (t .relays) → b ≡ noClash numbered ns
+      → b ≡ soundRelays t
+  unfolding soundRelays
+  relays-hold i ns l k e h =
+      rw (← all-passed (soundRelay t) (t .relays) 32 i l k) (rw e at h ∙ clash-mapped relayNumber numbered (t .relays))
