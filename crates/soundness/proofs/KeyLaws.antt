@@ -1,12 +1,13 @@
 -- The loop that sums an entry's key, and what keys that differ say of two entries. Assumes nothing.
 use mathlib.Core.Path.{_≡_, refl, sym, _∙_, ap}
-use mathlib.Core.Bool.{Bool, true, false}
+use mathlib.Core.Bool.{Bool, true, false, not}
+use mathlib.Core.Logic.{⊎-elim}
 use mathlib.Core.List.{List, [], _∷_, map}
 use Prim.Native.Nat.{ℕ, zero, suc, _+_, _*_, _<_, _≤_, min}
 use mir.Val.{Fits}
 use mir.Syntax.{w8, w32, w64}
 use borrow.Author.Needs.{needs}
-use borrow.Author.Tests.{ltb-true, lt-ltb, eqb-true, eq-eqb, ne-eqb}
+use borrow.Author.Tests.{not-true, ltb-true, ltb-false, lt-ltb, eqb-true, eq-eqb, ne-eqb}
 use native.Mathlib.Omega.{arith}
 use native.Mathlib.Numerals.{add-one}
 use lib.Dec.{eqb}
@@ -14,16 +15,17 @@ use lib.ListN.{length, take, drop, getD, set, replicate, drop-of-length-le, leng
 use lib.Seq.{drop-cons, getD-take, getD-drop}
 use Rattle.lists.specs.Bytes.{sameBytes}
 use Rattle.lists.specs.ByteLaws.{same-eq}
-use Rattle.lists.specs.BoolLaws.{and-left, and-right, and-both, not-both, not-pass}
+use Rattle.lists.specs.BoolLaws.{and-left, and-right, and-both, not-both, not-pass, pass-or-fail}
 use Rattle.lists.specs.Lists.{anyOf}
-use Rattle.lists.specs.TestLaws.{at-none, none-at}
+use Rattle.lists.specs.TestLaws.{at-none, none-at, at-all, at-clash}
 use Rattle.lists.specs.RowLaws.{map-row}
 use Rattle.lists.specs.LoopLaws.{ClashLoop, clash-step, part-length}
 use Rattle.lists.specs.ByteLoopLaws.{FillLoop}
 use Rattle.text.specs.Text.{textBytes}
 use Rattle.rules.specs.declared.Entry.{Entry}
+use Rattle.rules.specs.declared.Tables.{Tables}
 use Rattle.rules.specs.Tables.{given, numbered}
-use Rattle.rules.specs.Sound.{sameEntry}
+use Rattle.rules.specs.Sound.{soundEntry, soundEntries, sameEntry}
 use Rattle.rows.specs.Blank.{blankEntry}
 use Rattle.soundness.proofs.FillLaws.{fill-zero, fill-stored}
 use Rattle.soundness.specs.PathKeys.{keyOf, pathKey}
@@ -124,3 +126,30 @@ module _ (es : List Entry) (i : ℕ) (out next : List ℕ) (h : FillLoop (replic
   pub key-stored : (x : ℕ) → (getD es i blankEntry .volume .0 ≡ 0 → ⊥) → x ≡ keyOf (getD es i blankEntry .volume .0) (textBytes (getD es i blankEntry .path)) → next ≡ set out i x
       → FillLoop (replicate 64 0) 0 (map pathKey es) 64 (i + 1) next
   key-stored x n e q = fill-stored pathKey blankEntry es 64 i out next h k x (e ∙ sym (used-key (getD es i blankEntry) (omega arith))) q
+
+-- where no key is given, every row is free, and the entries are sound
+no-key : (e : Entry) → given (pathKey e) ≡ false → e .volume .0 ≡ 0
+no-key e h =
+    ⊎-elim
+    (λ w. absurd (omega (arith, ltb-true 0 (e .volume .0) w, ltb-false 0 (pathKey e) h, used-key e (ltb-true 0 (e .volume .0) w), key-least (e .volume .0) (textBytes (e .path)))))
+    (λ w. omega (arith, ltb-false 0 (e .volume .0) w))
+    (pass-or-fail (given (e .volume .0)))
+
+free-passes : (t : Tables) (e : Entry) → e .volume .0 ≡ 0 → soundEntry t e ≡ true
+unfolding soundEntry
+free-passes t e h = rw h
+
+free-differs : (a b : Entry) → a .volume .0 ≡ 0 → sameEntry a b ≡ false
+unfolding sameEntry
+free-differs a b h = rw h
+
+pub no-entries : (t : Tables) (ks : List ℕ) (b : Bool) → ks ≡ map pathKey (t .entries) → b ≡ anyOf given ks → not b ≡ true → true ≡ soundEntries t
+unfolding soundEntries
+no-entries t ks b e h w =
+    sym (and-both (at-all (soundEntry t) (t .entries) blankEntry (λ j k. free-passes t _ (free j k)))
+    (at-clash sameEntry (t .entries) blankEntry (λ i j k l. free-differs _ _ (free i (omega arith)))))
+  where
+    free : (j : ℕ) → j < length (t .entries) → getD (t .entries) j blankEntry .volume .0 ≡ 0
+    free j k =
+        let none = none-at given ks (sym h ∙ not-true b w) j (omega (arith, ap (λ (l : List ℕ). length l) e, length-map (t .entries) pathKey)) 0 in
+        no-key (getD (t .entries) j blankEntry) (rw (ap (λ (l : List ℕ). getD l j 0) e, map-row pathKey (t .entries) j blankEntry 0 k) at none)

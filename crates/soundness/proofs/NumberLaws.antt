@@ -1,16 +1,20 @@
 -- Tests of a table's rows by their numbers alone, where the numbers stand in a list of their own. Assumes nothing.
-use mathlib.Core.Path.{_≡_, refl, sym, _∙_}
+use mathlib.Core.Path.{_≡_, refl, sym, _∙_, ap}
 use mathlib.Core.Bool.{Bool, true, false, not, _&&_}
 use mathlib.Core.List.{List, [], _∷_, map}
 use Prim.Native.Nat.{ℕ, _<_, _≤_}
-use borrow.Author.Tests.{not-true, not-false}
-use lib.ListN.{getD}
+use borrow.Author.Tests.{not-true, not-false, ltb-false}
+use native.Mathlib.Omega.{arith}
+use lib.ListN.{length, getD, length-map}
 use Rattle.lists.specs.Lists.{allOf, anyOf, noClash}
 use Rattle.lists.specs.BoolLaws.{and-both}
+use Rattle.lists.specs.RowLaws.{map-row}
+use Rattle.lists.specs.TestLaws.{none-at, at-all, at-clash}
 use Rattle.lists.specs.LoopLaws.{AllLoop, all-failed, all-passed}
 use Rattle.rules.specs.declared.Volume.{Volume}
+use Rattle.rules.specs.declared.Relay.{Relay}
 use Rattle.rules.specs.declared.Tables.{Tables}
-use Rattle.rules.specs.Tables.{numbered}
+use Rattle.rules.specs.Tables.{given, numbered}
 use Rattle.rules.specs.Sound.{sameVolume, sameToken, sameRelayRow, soundToken, soundTokens, soundRelay, soundRelays}
 use Rattle.rows.specs.Blank.{blankToken, blankRelay}
 use Rattle.soundness.specs.Numbers.{volumeNumber, tokenNumber, relayNumber}
@@ -69,3 +73,22 @@ module _ (t : Tables) (b : Bool) where
   unfolding soundRelays
   relays-hold i ns l k e h =
       rw (← all-passed (soundRelay t) (t .relays) 32 i l k) (rw e at h ∙ clash-mapped relayNumber numbered (t .relays))
+
+-- where no number is given, every row is free, and the relays are sound
+free-relay : (t : Tables) (x : Relay) → given (x .no .0) ≡ false → soundRelay t x ≡ true
+unfolding soundRelay
+free-relay t x h = let z : x .no .0 ≡ 0 = omega (arith, ltb-false 0 (x .no .0) h) in rw z
+
+free-row : (x y : Relay) → given (x .no .0) ≡ false → sameRelayRow x y ≡ false
+free-row x y h = rw h
+
+pub no-relays : (t : Tables) (ns : List ℕ) (b : Bool) → ns ≡ map relayNumber (t .relays) → b ≡ anyOf given ns → not b ≡ true → true ≡ soundRelays t
+unfolding soundRelays
+no-relays t ns b e h w =
+    sym (and-both (at-all (soundRelay t) (t .relays) blankRelay (λ j k. free-relay t _ (free j k)))
+    (at-clash sameRelayRow (t .relays) blankRelay (λ i j k l. free-row (getD (t .relays) i blankRelay) (getD (t .relays) j blankRelay) (free i (omega arith)))))
+  where
+    free : (j : ℕ) → j < length (t .relays) → given (getD (t .relays) j blankRelay .no .0) ≡ false
+    free j k =
+        let none = none-at given ns (sym h ∙ not-true b w) j (omega (arith, ap (λ (l : List ℕ). length l) e, length-map (t .relays) relayNumber)) 0 in
+        rw (ap (λ (l : List ℕ). getD l j 0) e, map-row relayNumber (t .relays) j blankRelay 0 k) at none

@@ -3,7 +3,7 @@ ghost use mathlib.Core.Path.{_≡_};
 ghost use lib.ListN.{drop};
 ghost use mathlib.Core.List.{map};
 ghost use Rattle.lists.specs.Lists.{anyOf, noClash};
-ghost use Rattle.rules.specs.Tables.{numbered};
+ghost use Rattle.rules.specs.Tables.{given, numbered};
 ghost use Rattle.soundness.specs.Numbers.{volumeNumber, tokenNumber, relayNumber};
 use rules::Relay;
 use rules::Token;
@@ -26,6 +26,26 @@ pub(crate) fn number_again(numbers: &[u64], n: u64, start: usize) -> bool
     let mut i = start;
     while i < numbers.len() {
         if is_number(n, numbers[i]) {
+            return true;
+        }
+        i += 1;
+    }
+    false
+}
+
+fn is_some(n: u64) -> bool
+    ensures { λ r. ⌜ r ≡ given n ⌝ }
+{
+    0 < n
+}
+
+// Whether some number is not 0.
+pub(crate) fn any_number(numbers: &[u64]) -> bool
+    ensures { λ r. ⌜ r ≡ anyOf given (now (numbers .entry)) ⌝ }
+{
+    let mut i: usize = 0;
+    while i < numbers.len() {
+        if is_some(numbers[i]) {
             return true;
         }
         i += 1;

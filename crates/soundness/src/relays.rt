@@ -5,6 +5,7 @@ ghost use mathlib.Core.List.{map};
 ghost use Rattle.lists.specs.Lists.{sumOf};
 ghost use Rattle.rules.specs.Relays.{shardBytes, bytesOn, shardsOn};
 ghost use Rattle.rules.specs.Sound.{soundVolumes, soundEntries, soundRelay, soundRelays};
+use super::numbers::any_number;
 use super::numbers::numbers_differ;
 use super::numbers::relay_numbers;
 use super::shards::Load;
@@ -77,6 +78,11 @@ pub(crate) fn sound_relays(t: Tables) -> bool
     requires { ⌜ (soundVolumes t ≡ true) × (soundEntries t ≡ true) ⌝ }
     ensures { λ r. ⌜ r ≡ soundRelays t ⌝ }
 {
+    let rows = t.relays;
+    let numbers = relay_numbers(rows);
+    if !any_number(&numbers) {
+        return true;
+    }
     let sizes = shard_sizes(t);
     relays_hold(t, sizes)
 }

@@ -13,7 +13,6 @@ paths-differ-spec =
     (tie.spec
     (λ rows keys i₀ i. ClashLoop sameEntry rows 64 i)
     (λ rows keys i₀ i. 64 - i)
-    (λ c κs. search clashes)
     (λ c. search clashes)
     (λ c. search clashes)
     (λ c. search clashes)
