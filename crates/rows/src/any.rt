@@ -17,8 +17,7 @@ pub fn any_volume(rows: [Volume; 8], n: VolumeNo, start: usize) -> bool
 {
     let mut i = start;
     while i < 8 {
-        let v = rows[i];
-        if is_number(n.0, v.no.0) {
+        if is_number(n.0, rows[i].no.0) {
             return true;
         }
         i += 1;
@@ -31,8 +30,7 @@ pub fn any_token(rows: [Token; 32], n: TokenNo, start: usize) -> bool
 {
     let mut i = start;
     while i < 32 {
-        let k = rows[i];
-        if is_number(n.0, k.no.0) {
+        if is_number(n.0, rows[i].no.0) {
             return true;
         }
         i += 1;
@@ -45,8 +43,7 @@ pub fn any_relay(rows: [Relay; 32], n: RelayNo, start: usize) -> bool
 {
     let mut i = start;
     while i < 32 {
-        let x = rows[i];
-        if is_number(n.0, x.no.0) {
+        if is_number(n.0, rows[i].no.0) {
             return true;
         }
         i += 1;

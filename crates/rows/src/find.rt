@@ -16,8 +16,7 @@ pub fn find_volume(rows: [Volume; 8], n: VolumeNo) -> Found
 {
     let mut i: usize = 0;
     while i < 8 {
-        let v = rows[i];
-        if is_number(n.0, v.no.0) {
+        if is_number(n.0, rows[i].no.0) {
             return Found::At(i);
         }
         i += 1;
@@ -30,8 +29,7 @@ pub fn find_token(rows: [Token; 32], n: TokenNo) -> Found
 {
     let mut i: usize = 0;
     while i < 32 {
-        let k = rows[i];
-        if is_number(n.0, k.no.0) {
+        if is_number(n.0, rows[i].no.0) {
             return Found::At(i);
         }
         i += 1;
@@ -44,8 +42,7 @@ pub fn find_relay(rows: [Relay; 32], n: RelayNo) -> Found
 {
     let mut i: usize = 0;
     while i < 32 {
-        let x = rows[i];
-        if is_number(n.0, x.no.0) {
+        if is_number(n.0, rows[i].no.0) {
             return Found::At(i);
         }
         i += 1;
@@ -58,8 +55,7 @@ pub fn free_volume(rows: [Volume; 8]) -> Found
 {
     let mut i: usize = 0;
     while i < 8 {
-        let v = rows[i];
-        if v.no.0 == 0 {
+        if rows[i].no.0 == 0 {
             return Found::At(i);
         }
         i += 1;
@@ -98,8 +94,7 @@ pub fn free_relay(rows: [Relay; 32]) -> Found
 {
     let mut i: usize = 0;
     while i < 32 {
-        let x = rows[i];
-        if x.no.0 == 0 {
+        if rows[i].no.0 == 0 {
             return Found::At(i);
         }
         i += 1;

@@ -1,2 +1,5 @@
+pub mod FillLaws
+pub mod KeyLaws
+pub mod NumberLaws
 pub mod ShardLaws
 pub mod Told

@@ -5,18 +5,18 @@ use mathlib.Core.List.{List, map}
 use Prim.Native.Nat.{ℕ, _+_, _*_, _^_, _<_, _≤_}
 use mir.Val.{Fits}
 use mir.Syntax.{w32, w64}
-use borrow.Author.Needs.{needs}
 use native.Mathlib.Omega.{arith}
 use borrow.Author.Tests.{ltb-true, leb-true, eqb-true, ne-eqb}
 use lib.Dec.{eqb, leb}
-use lib.ListN.{length, getD}
+use lib.ListN.{length, getD, set, replicate}
 use Rattle.lists.specs.Lists.{Hit, allOf, noClash, find, hit, miss, sumOf}
 use Rattle.lists.specs.SumLaws.{bit-lt, sum-le}
 use Rattle.lists.specs.LoopLaws.{SumLoop, sum-start, sum-adds, sum-skips, sum-within, sum-all}
-use Rattle.lists.specs.RowLaws.{rows-length, map-row}
+use Rattle.lists.specs.RowLaws.{map-row}
 use Rattle.lists.specs.BoolLaws.{and-left, and-right}
-use Rattle.lists.specs.SearchLaws.{found-below, found-at, row-passes}
-use Rattle.lists.specs.TestLaws.{all-at}
+use Rattle.lists.specs.SearchLaws.{found-below, found-at, row-passes, none-miss}
+use Rattle.lists.specs.ByteLoopLaws.{FillLoop}
+use Rattle.lists.specs.TestLaws.{all-at, at-none}
 use Rattle.text.specs.Text.{within, isName, isPath, holds}
 use Rattle.rules.specs.declared.Volume.{Volume}
 use Rattle.rules.specs.declared.Entry.{Entry}
@@ -29,12 +29,25 @@ use Rattle.rules.specs.Relays.{shardBytes, holdsShard, bytesOn, shardsOn}
 use Rattle.rules.specs.Sound.{isGiven, shardsFit, soundStatus, soundVolume, soundVolumes, sameVolume, sameName, soundIn, soundEntry, soundEntries, sameEntry}
 use Rattle.rules.specs.Laws.CeilLaws.{ceil-most}
 use Rattle.rows.specs.ShardBytes.{shard-none, shard-some}
+use Rattle.soundness.proofs.FillLaws.{fill-zero, fill-stored}
 use Rattle.rows.specs.Blank.{blankVolume, blankEntry}
 
 -- a used row that is sound passes what comes after the test for a free one
 used-row : (free rest : Bool) → free ≡ false → (free || rest) ≡ true → rest ≡ true
 used-row true rest e h = absurd (let z : _≡_ {A = ℕ} 0 1 = cc in omega arith)
 used-row false rest e h = h
+
+-- a free row's shards have no bytes, so that 0 may stand for them
+free-size : (vs : List Volume) (e : Entry) → e .volume .0 ≡ 0 → shardBytes vs e ≡ 0
+free-size vs e h = shard-none vs e (none-miss (isVolume (e .volume)) vs 0 (at-none (isVolume (e .volume)) vs blankVolume (λ j k. rw h)))
+
+-- a turn of the loop that stores the sizes: a free row's is there already
+module _ (vs : List Volume) (es : List Entry) (i : ℕ) (out next : List ℕ) (h : FillLoop (replicate 64 0) 0 (map (shardBytes vs) es) 64 i out) (k : i < 64) where
+  pub size-skipped : getD es i blankEntry .volume .0 ≡ 0 → next ≡ out → FillLoop (replicate 64 0) 0 (map (shardBytes vs) es) 64 (i + 1) next
+  size-skipped e q = fill-zero (shardBytes vs) blankEntry es 64 i out next h k (free-size vs (getD es i blankEntry) e) q
+
+  pub size-stored : (x : ℕ) → x ≡ shardBytes vs (getD es i blankEntry) → next ≡ set out i x → FillLoop (replicate 64 0) 0 (map (shardBytes vs) es) 64 (i + 1) next
+  size-stored x e q = fill-stored (shardBytes vs) blankEntry es 64 i out next h k x e q
 
 -- a sound volume in use has a K that is not 0
 least-k : (t : Tables) (v : Volume) → 0 < v .no .0 → soundVolume t v ≡ true → 1 ≤ v .k
@@ -137,17 +150,22 @@ held-small n es l = rw l at (sum-le (shardsOn n) 1 es blankEntry (λ j b. shards
 abbrev pub entryAt : Tables → ℕ → Entry
 entryAt t i = getD (t .entries) i blankEntry
 
--- the loop that sums a relay's load over the entries of sound tables, whose shards have the sizes ss
-pub record LoadLoop (t : Tables) (ss : List ℕ) (n : RelayNo) (bytes shards i : ℕ) : Type 0 where
+-- sound tables, whose shards have the sizes ss
+pub record Sized (t : Tables) (ss : List ℕ) : Type 0 where
+  pub size : length (t .entries) ≡ 64
   pub sized : ss ≡ map (shardBytes (t .volumes)) (t .entries)
   pub volumes : soundVolumes t ≡ true
   pub entries : soundEntries t ≡ true
+
+-- the loop that sums a relay's load over their entries
+pub record LoadLoop (t : Tables) (ss : List ℕ) (n : RelayNo) (bytes shards i : ℕ) : Type 0 where
+  pub known : Sized t ss
   pub summed : SumLoop (bytesOn (t .volumes) n) (t .entries) 64 i bytes
   pub counted : SumLoop (shardsOn n) (t .entries) 64 i shards
 
 module _ (t : Tables) (ss : List ℕ) (n : RelayNo) where
-  pub load-start : length (t .entries) ≡ 64 → ss ≡ map (shardBytes (t .volumes)) (t .entries) → soundVolumes t ≡ true → soundEntries t ≡ true → LoadLoop t ss n 0 0 0
-  load-start l e hv he = record { sized = e; volumes = hv; entries = he; summed = sum-start _ _ 64 l; counted = sum-start _ _ 64 l }
+  pub load-start : Sized t ss → LoadLoop t ss n 0 0 0
+  load-start k = record { known = k; summed = sum-start _ _ 64 (k .size); counted = sum-start _ _ 64 (k .size) }
 
   module _ (bytes shards i : ℕ) (h : LoadLoop t ss n bytes shards i) where
     pub load-bytes : 64 ≤ i → bytes ≡ sumOf (bytesOn (t .volumes) n) (t .entries)
@@ -159,13 +177,13 @@ module _ (t : Tables) (ss : List ℕ) (n : RelayNo) where
     module _ (k : i < 64) where
       size-at : getD ss i 0 ≡ shardBytes (t .volumes) (entryAt t i)
       size-at =
-          ap (λ (l : List ℕ). getD l i 0) (h .sized) ∙ map-row (shardBytes (t .volumes)) (t .entries) i blankEntry 0 (omega (arith, h .summed .size))
+          ap (λ (l : List ℕ). getD l i 0) (h .known .sized) ∙ map-row (shardBytes (t .volumes)) (t .entries) i blankEntry 0 (omega (arith, h .summed .size))
 
       module _ (r : Bool) (q : r ≡ (usedEntry (entryAt t i) && holdsShard n (entryAt t i .placement))) where
         pub bytes-fit : r ≡ true → Fits w64 (bytes + getD ss i 0)
         bytes-fit w =
             let m = sum-within blankEntry (bytesOn (t .volumes) n) (t .entries) 64 i bytes (h .summed) k in
-            record { fits = omega (arith, m, size-at, bytes-on n (entryAt t i) (t .volumes) (sym q ∙ w), load-small t n (h .summed .size) (h .volumes) (h .entries)) }
+            record { fits = omega (arith, m, size-at, bytes-on n (entryAt t i) (t .volumes) (sym q ∙ w), load-small t n (h .summed .size) (h .known .volumes) (h .known .entries)) }
 
         pub shards-fit : r ≡ true → Fits w32 (shards + 1)
         shards-fit w =
@@ -176,9 +194,7 @@ module _ (t : Tables) (ss : List ℕ) (n : RelayNo) where
           pub load-on : r ≡ true → b′ ≡ bytes + getD ss i 0 → s′ ≡ shards + 1 → LoadLoop t ss n b′ s′ (i + 1)
           load-on w f g =
               record {
-                sized = h .sized;
-                volumes = h .volumes;
-                entries = h .entries;
+                known = h .known;
                 summed = sum-adds blankEntry _ _ 64 i bytes (getD ss i 0) b′ (h .summed) k (size-at ∙ bytes-on n (entryAt t i) (t .volumes) (sym q ∙ w)) f;
                 counted = sum-adds blankEntry _ _ 64 i shards 1 s′ (h .counted) k (shard-on n (entryAt t i) (sym q ∙ w)) g;
               }
@@ -187,11 +203,7 @@ module _ (t : Tables) (ss : List ℕ) (n : RelayNo) where
           load-off w f g =
               rw (f, g)
               (record {
-                sized = h .sized;
-                volumes = h .volumes;
-                entries = h .entries;
+                known = h .known;
                 summed = sum-skips blankEntry _ _ 64 i bytes (h .summed) k (sym (bytes-off n (entryAt t i) (t .volumes) (sym q ∙ w)));
                 counted = sum-skips blankEntry _ _ 64 i shards (h .counted) k (sym (shard-off n (entryAt t i) (sym q ∙ w)));
               })
-
-pub ruleset loads = (load-on, load-off, load-shards, load-bytes, bytes-fit, shards-fit, load-start, rows-length, needs)

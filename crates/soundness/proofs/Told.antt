@@ -1,9 +1,9 @@
 -- What a test of one row says of the tables that it was handed parts of. Assumes nothing.
 use mathlib.Core.Path.{_≡_, refl, sym, _∙_}
-use mathlib.Core.Bool.{Bool, true, false, not, _&&_, and-assoc}
+use mathlib.Core.Bool.{Bool, true, false, not, _&&_}
 use mathlib.Core.List.{List}
-use Prim.Native.Nat.{ℕ, _≤_}
-use borrow.Author.Tests.{ne-eqb, le-leb, not-false, not-true}
+use Prim.Native.Nat.{ℕ, _+_, _<_, _≤_}
+use borrow.Author.Tests.{ne-eqb, le-leb, not-false}
 use lib.Dec.{leb}
 use lib.ListN.{getD}
 use Rattle.text.specs.Text.{holds, isPrefix}
@@ -12,20 +12,21 @@ use Rattle.rules.specs.Scope.{capFits, depth}
 use Rattle.lists.specs.declared.Found.{Found}
 use Rattle.lists.specs.declared.Found.the-variants.{At, Nothing}
 use Rattle.lists.specs.Lists.{Hit, firstAt, find, allOf, anyOf}
-use Rattle.lists.specs.BoolLaws.{and-left, and-right}
 use Rattle.lists.specs.SearchLaws.{first-row, first-miss}
 use Rattle.rules.specs.declared.RelayNo.{RelayNo}
 use Rattle.rules.specs.declared.VolumeNo.{VolumeNo}
 use Rattle.rules.specs.Tables.{isVolume}
-use Rattle.rows.specs.Blank.{blankVolume}
+use Rattle.rows.specs.Blank.{blankVolume, blankRelay}
+use Rattle.lists.specs.LoopLaws.{AllLoop, all-step}
 use Rattle.rules.specs.declared.Placement.{Placement}
 use Rattle.rules.specs.declared.Volume.{Volume}
 use Rattle.rules.specs.declared.Token.{Token}
 use Rattle.rules.specs.declared.Entry.{Entry}
+use Rattle.rules.specs.declared.Relay.{Relay}
 use Rattle.rules.specs.declared.Session.{Session}
 use Rattle.rules.specs.declared.Status.{Status}
 use Rattle.rules.specs.declared.Tables.{Tables}
-use Rattle.rules.specs.Sound.{soundGrace, soundVolume, soundToken, soundEntry, soundSession, soundIn, parentThere, relayGiven, soundPlacement, isGiven, volumeThere}
+use Rattle.rules.specs.Sound.{soundGrace, soundVolumes, soundEntries, soundVolume, soundToken, soundEntry, soundRelay, soundSession, soundIn, parentThere, relayGiven, soundPlacement, isGiven, volumeThere}
 
 module _ (t : Tables) (b : Bool) where
   pub volume-told : (v : Volume) → ((u : Tables) → u .«last_volume» ≡ t .«last_volume» → u .clock ≡ t .clock → b ≡ soundVolume u v) → b ≡ soundVolume t v
@@ -72,21 +73,20 @@ unfolding soundToken volumeThere
 token-passed t k x fits there parent vs rows last n used e f g a a′ b b′ p′ p d d′ w =
     rw (ne-eqb (k .no .0) 0 used, ← p, not-false parent p′, e, f, g, ← a, not-false fits a′, ← b, not-false there b′, ← d, le-leb n deepest d′) w
 
+-- a free relay's row passes
+pub relay-skipped : (t : Tables) (rows : List Relay) (i : ℕ) → AllLoop (soundRelay t) rows 32 i → i < 32 → getD rows i blankRelay .no .0 ≡ 0
+    → AllLoop (soundRelay t) rows 32 (i + 1)
+unfolding soundRelay
+relay-skipped t rows i h k e = all-step blankRelay (soundRelay t) rows 32 i true h k (sym (rw e)) refl
+
 -- the grace count of a status that is known
 pub by-status : (s k : Status) (x : Bool) (grace : ℕ) → s ≡ k → x ≡ soundGrace k grace → x ≡ soundGrace s grace
 by-status s k x grace e f = rw e f
 
--- the tables' test, where one function said of two parts, v and e, whether both hold
-pub contents-hold : (r v e : Bool) → r ≡ (v && e) → not r ≡ false → (v ≡ true) × (e ≡ true)
-contents-hold r v e said f = let h = sym said ∙ not-false r f in (and-left v e h, and-right v e h)
+-- what the tests of the volumes and of the entries said: first the branch that was not taken, since it shows which test it was
+module _ (r : Bool) (f : not r ≡ false) (t : Tables) where
+  pub volumes-held : r ≡ soundVolumes t → soundVolumes t ≡ true
+  volumes-held e = sym e ∙ not-false r f
 
-module _ (r c v e k l : Bool) (said : r ≡ (v && e)) where
-  pub contents-fail : not r ≡ true → false ≡ (c && v && e && k && l)
-  contents-fail f = rw (and-assoc c v e, ← said, not-true r f) (go c)
-    where
-      go : (c : Bool) → false ≡ (c && false && k && l)
-      go true = refl
-      go false = refl
-
-  pub tables-pass : (x : Bool) → not r ≡ false → c ≡ true → k ≡ true → x ≡ l → x ≡ (c && v && e && k && l)
-  tables-pass x f g h q = let p = contents-hold r v e said f in q ∙ sym (rw (g, p .0, p .1, h))
+  pub entries-held : r ≡ soundEntries t → soundEntries t ≡ true
+  entries-held e = sym e ∙ not-false r f

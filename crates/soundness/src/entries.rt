@@ -1,10 +1,17 @@
 // The entry table, row by row and against itself.
 ghost use mathlib.Core.Path.{_≡_};
-ghost use lib.ListN.{drop};
+ghost use mathlib.Core.List.{map};
+ghost use Prim.Native.Nat.{_+_, _<_};
+ghost use lib.ListN.{drop, getD};
 ghost use Rattle.lists.specs.Lists.{allOf, anyOf, noClash, find};
+ghost use Rattle.rows.specs.Blank.{blankEntry};
+ghost use Rattle.soundness.specs.PathKeys.{pathKey};
 ghost use Rattle.rules.specs.declared.Tables.{Tables};
 ghost use Rattle.rules.specs.Tables.{isVolume};
 ghost use Rattle.rules.specs.Sound.{soundIn, soundEntry, soundEntries, sameEntry};
+use super::numbers::any_number;
+use super::numbers::number_again;
+use super::path_keys::path_keys;
 use super::placements::sound_placement;
 use lists::Found;
 use rows::find_volume;
@@ -88,27 +95,44 @@ fn path_again(rows: [Entry; 64], a: Entry, start: usize) -> bool
     false
 }
 
-// No volume's path is held twice.
-fn paths_differ(rows: [Entry; 64]) -> bool
+// Whether a row after this one has the same volume and path.
+fn clashes_at(rows: [Entry; 64], i: usize) -> bool
+    requires { ⌜ i < 64 ⌝ }
+    ensures { λ r. ⌜ r ≡ anyOf (sameEntry (getD rows i blankEntry)) (drop (i + 1) rows) ⌝ }
+{
+    let e = rows[i];
+    path_again(rows, e, i + 1)
+}
+
+// No volume's path is held twice, where these are the entries' keys.
+fn paths_differ(rows: [Entry; 64], keys: [u64; 64]) -> bool
+    requires { ⌜ keys ≡ map pathKey rows ⌝ }
     ensures { λ r. ⌜ r ≡ noClash sameEntry rows ⌝ }
 {
     let mut i: usize = 0;
     while i < 64 {
-        let e = rows[i];
-        if path_again(rows, e, i + 1) {
-            return false;
+        let key = keys[i];
+        if number_again(&keys, key, i + 1) {
+            if clashes_at(rows, i) {
+                return false;
+            }
         }
         i += 1;
     }
     true
 }
 
+// Where every key is 0, every row is free.
 pub(crate) fn sound_entries(t: Tables) -> bool
     ensures { λ r. ⌜ r ≡ soundEntries t ⌝ }
 {
+    let rows = t.entries;
+    let keys = path_keys(rows);
+    if !any_number(&keys) {
+        return true;
+    }
     if !all_entries(t) {
         return false;
     }
-    let rows = t.entries;
-    paths_differ(rows)
+    paths_differ(rows, keys)
 }

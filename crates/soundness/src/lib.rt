@@ -5,6 +5,8 @@ ghost use mathlib.Core.Path.{_≡_};
 ghost use Rattle.rules.specs.Sound.{sound};
 
 mod entries;
+mod numbers;
+mod path_keys;
 mod placements;
 mod relays;
 mod sessions;

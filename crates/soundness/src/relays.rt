@@ -2,13 +2,15 @@
 ghost use mathlib.Core.Path.{_≡_};
 ghost use mathlib.Core.Bool.{true};
 ghost use mathlib.Core.List.{map};
-ghost use Rattle.lists.specs.Lists.{allOf, noClash, sumOf};
+ghost use Rattle.lists.specs.Lists.{sumOf};
 ghost use Rattle.rules.specs.Relays.{shardBytes, bytesOn, shardsOn};
-ghost use Rattle.rules.specs.Sound.{soundVolumes, soundEntries, soundRelay, soundRelays, sameRelayRow};
+ghost use Rattle.rules.specs.Sound.{soundVolumes, soundEntries, soundRelay, soundRelays};
+use super::numbers::any_number;
+use super::numbers::numbers_differ;
+use super::numbers::relay_numbers;
 use super::shards::Load;
-use super::shards::load_of;
+use super::shards::has_shard;
 use super::shards::shard_sizes;
-use rows::any_relay;
 use rows::is_given;
 use rules::Relay;
 use rules::Tables;
@@ -39,48 +41,48 @@ fn sound_relay(t: Tables, x: Relay, load: Load) -> bool
     x.held == load.shards
 }
 
-// Of tables whose shards have these sizes.
-fn all_relays(t: Tables, sizes: [u64; 64]) -> bool
+// Of tables whose shards have these sizes. A relay's load is summed here and by no function of its own, which would copy the entries
+// for each relay.
+fn relays_hold(t: Tables, sizes: [u64; 64]) -> bool
     requires { ⌜ (sizes ≡ map (shardBytes (t .volumes)) (t .entries)) × (soundVolumes t ≡ true) × (soundEntries t ≡ true) ⌝ }
-    ensures { λ r. ⌜ r ≡ allOf (soundRelay t) (t .relays) ⌝ }
+    ensures { λ r. ⌜ r ≡ soundRelays t ⌝ }
 {
     let rows = t.relays;
     let mut i: usize = 0;
     while i < 32 {
         let x = rows[i];
         let n = x.no;
-        if !sound_relay(t, x, load_of(t, sizes, n)) {
-            return false;
+        if n.0 != 0 {
+            let mut bytes: u64 = 0;
+            let mut shards: u32 = 0;
+            let mut j: usize = 0;
+            while j < 64 {
+                let e = t.entries[j];
+                if has_shard(e, n) {
+                    bytes += sizes[j];
+                    shards += 1;
+                }
+                j += 1;
+            }
+            if !sound_relay(t, x, Load { bytes, shards }) {
+                return false;
+            }
         }
         i += 1;
     }
-    true
-}
-
-// No number is held twice.
-fn numbers_differ(rows: [Relay; 32]) -> bool
-    ensures { λ r. ⌜ r ≡ noClash sameRelayRow rows ⌝ }
-{
-    let mut i: usize = 0;
-    while i < 32 {
-        let x = rows[i];
-        let n = x.no;
-        if any_relay(rows, n, i + 1) {
-            return false;
-        }
-        i += 1;
-    }
-    true
+    let numbers = relay_numbers(rows);
+    numbers_differ(&numbers)
 }
 
 pub(crate) fn sound_relays(t: Tables) -> bool
     requires { ⌜ (soundVolumes t ≡ true) × (soundEntries t ≡ true) ⌝ }
     ensures { λ r. ⌜ r ≡ soundRelays t ⌝ }
 {
-    let sizes = shard_sizes(t);
-    if !all_relays(t, sizes) {
-        return false;
-    }
     let rows = t.relays;
-    numbers_differ(rows)
+    let numbers = relay_numbers(rows);
+    if !any_number(&numbers) {
+        return true;
+    }
+    let sizes = shard_sizes(t);
+    relays_hold(t, sizes)
 }

@@ -1,11 +1,9 @@
-// The bytes of each entry's shards, and what the entries have on a relay.
+// The bytes of each entry's shards, and whether an entry has one on a relay.
 ghost use mathlib.Core.Path.{_≡_};
-ghost use mathlib.Core.Bool.{true, _&&_};
+ghost use mathlib.Core.Bool.{_&&_};
 ghost use mathlib.Core.List.{map};
-ghost use Rattle.lists.specs.Lists.{sumOf};
 ghost use Rattle.rules.specs.Tables.{usedEntry};
-ghost use Rattle.rules.specs.Relays.{shardBytes, holdsShard, bytesOn, shardsOn};
-ghost use Rattle.rules.specs.Sound.{soundVolumes, soundEntries};
+ghost use Rattle.rules.specs.Relays.{shardBytes, holdsShard};
 use super::placements::relay_again;
 use rows::shard_bytes;
 use rules::Entry;
@@ -18,7 +16,7 @@ pub(crate) struct Load {
     pub shards: u32,
 }
 
-// The bytes of each entry's shards.
+// The bytes of each entry's shards: 0 of a free row.
 pub(crate) fn shard_sizes(t: Tables) -> [u64; 64]
     ensures { λ r. ⌜ r ≡ map (shardBytes (t .volumes)) (t .entries) ⌝ }
 {
@@ -27,15 +25,17 @@ pub(crate) fn shard_sizes(t: Tables) -> [u64; 64]
     let mut sizes = [0u64; 64];
     let mut i: usize = 0;
     while i < 64 {
-        let e = entries[i];
-        sizes[i] = shard_bytes(volumes, e);
+        if entries[i].volume.0 != 0 {
+            let e = entries[i];
+            sizes[i] = shard_bytes(volumes, e);
+        }
         i += 1;
     }
     sizes
 }
 
 // Whether the entry has a shard on this relay.
-fn has_shard(e: Entry, n: RelayNo) -> bool
+pub(crate) fn has_shard(e: Entry, n: RelayNo) -> bool
     ensures { λ r. ⌜ r ≡ (usedEntry e && holdsShard n (e .placement)) ⌝ }
 {
     if e.volume.0 == 0 {
@@ -44,23 +44,4 @@ fn has_shard(e: Entry, n: RelayNo) -> bool
     let p = e.placement;
     let relays = p.relays;
     relay_again(relays, p.len, n, 0)
-}
-
-// What the entries have on a relay, where these are the sizes of their shards.
-pub(crate) fn load_of(t: Tables, sizes: [u64; 64], n: RelayNo) -> Load
-    requires { ⌜ (sizes ≡ map (shardBytes (t .volumes)) (t .entries)) × (soundVolumes t ≡ true) × (soundEntries t ≡ true) ⌝ }
-    ensures { λ r. ⌜ (r .bytes ≡ sumOf (bytesOn (t .volumes) n) (t .entries)) × (r .shards ≡ sumOf (shardsOn n) (t .entries)) ⌝ }
-{
-    let mut bytes: u64 = 0;
-    let mut shards: u32 = 0;
-    let mut i: usize = 0;
-    while i < 64 {
-        let e = t.entries[i];
-        if has_shard(e, n) {
-            bytes += sizes[i];
-            shards += 1;
-        }
-        i += 1;
-    }
-    Load { bytes, shards }
 }

@@ -1,7 +1,6 @@
 // The tables: the counts, then each table in turn.
 ghost use mathlib.Core.Path.{_≡_};
-ghost use mathlib.Core.Bool.{_&&_};
-ghost use Rattle.rules.specs.Sound.{soundCounts, soundVolumes, soundEntries, soundTables};
+ghost use Rattle.rules.specs.Sound.{soundCounts, soundTables};
 use super::entries::sound_entries;
 use super::relays::sound_relays;
 use super::tokens::sound_tokens;
@@ -27,16 +26,6 @@ fn sound_counts(t: Tables) -> bool
     t.last_relay <= 65535
 }
 
-// The volumes and the entries: what the sums of the relays need within the limits.
-fn sound_contents(t: Tables) -> bool
-    ensures { λ r. ⌜ r ≡ (soundVolumes t && soundEntries t) ⌝ }
-{
-    if !sound_volumes(t) {
-        return false;
-    }
-    sound_entries(t)
-}
-
 // The relays come last: their sums need sizes and K within the limits.
 pub(crate) fn sound_tables(t: Tables) -> bool
     ensures { λ r. ⌜ r ≡ soundTables t ⌝ }
@@ -47,7 +36,10 @@ pub(crate) fn sound_tables(t: Tables) -> bool
     if !sound_tokens(t) {
         return false;
     }
-    if !sound_contents(t) {
+    if !sound_volumes(t) {
+        return false;
+    }
+    if !sound_entries(t) {
         return false;
     }
     sound_relays(t)

@@ -2,11 +2,12 @@
 ghost use mathlib.Core.Path.{_≡_};
 ghost use mathlib.Core.Bool.{_&&_};
 ghost use lib.Dec.{leb};
-ghost use Rattle.lists.specs.Lists.{allOf, noClash};
 ghost use Rattle.rules.specs.declared.Tables.{Tables};
 ghost use Rattle.text.specs.Text.{holds, isPrefix};
 ghost use Rattle.rules.specs.Scope.{capFits};
-ghost use Rattle.rules.specs.Sound.{isGiven, parentThere, soundToken, soundTokens, sameToken};
+ghost use Rattle.rules.specs.Sound.{isGiven, parentThere, soundToken, soundTokens};
+use super::numbers::numbers_differ;
+use super::numbers::token_numbers;
 use rows::any_token;
 use rows::any_volume;
 use rows::cap_fits;
@@ -70,11 +71,15 @@ fn sound_token(k: Token, volumes: [Volume; 8], rows: [Token; 32], last: u32) -> 
     k.used <= 1152921504606846976
 }
 
-fn all_tokens(t: Tables) -> bool
-    ensures { λ r. ⌜ r ≡ allOf (soundToken t) (t .tokens) ⌝ }
+pub(crate) fn sound_tokens(t: Tables) -> bool
+    ensures { λ r. ⌜ r ≡ soundTokens t ⌝ }
 {
     let rows = t.tokens;
     let volumes = t.volumes;
+    let numbers = token_numbers(rows);
+    if !numbers_differ(&numbers) {
+        return false;
+    }
     let mut i: usize = 0;
     while i < 32 {
         let k = rows[i];
@@ -84,30 +89,4 @@ fn all_tokens(t: Tables) -> bool
         i += 1;
     }
     true
-}
-
-// No number is held twice.
-fn numbers_differ(rows: [Token; 32]) -> bool
-    ensures { λ r. ⌜ r ≡ noClash sameToken rows ⌝ }
-{
-    let mut i: usize = 0;
-    while i < 32 {
-        let k = rows[i];
-        let n = k.no;
-        if any_token(rows, n, i + 1) {
-            return false;
-        }
-        i += 1;
-    }
-    true
-}
-
-pub(crate) fn sound_tokens(t: Tables) -> bool
-    ensures { λ r. ⌜ r ≡ soundTokens t ⌝ }
-{
-    if !all_tokens(t) {
-        return false;
-    }
-    let rows = t.tokens;
-    numbers_differ(rows)
 }

@@ -3,8 +3,9 @@ ghost use mathlib.Core.Path.{_≡_};
 ghost use lib.ListN.{drop};
 ghost use Rattle.lists.specs.Lists.{allOf, anyOf, noClash};
 ghost use Rattle.rules.specs.declared.Tables.{Tables};
-ghost use Rattle.rules.specs.Sound.{soundGrace, soundStatus, soundVolume, soundVolumes, sameVolume, sameName};
-use rows::any_volume;
+ghost use Rattle.rules.specs.Sound.{soundGrace, soundStatus, soundVolume, soundVolumes, sameName};
+use super::numbers::numbers_differ;
+use super::numbers::volume_numbers;
 use rows::cap_fits;
 use rows::is_given;
 use rows::owned_by;
@@ -83,22 +84,6 @@ fn all_volumes(t: Tables) -> bool
     true
 }
 
-// No number is held twice.
-fn numbers_differ(rows: [Volume; 8]) -> bool
-    ensures { λ r. ⌜ r ≡ noClash sameVolume rows ⌝ }
-{
-    let mut i: usize = 0;
-    while i < 8 {
-        let v = rows[i];
-        let n = v.no;
-        if any_volume(rows, n, i + 1) {
-            return false;
-        }
-        i += 1;
-    }
-    true
-}
-
 fn same_name(a: Volume, b: Volume) -> bool
     ensures { λ r. ⌜ r ≡ sameName a b ⌝ }
 {
@@ -154,7 +139,8 @@ pub(crate) fn sound_volumes(t: Tables) -> bool
         return false;
     }
     let rows = t.volumes;
-    if !numbers_differ(rows) {
+    let numbers = volume_numbers(rows);
+    if !numbers_differ(&numbers) {
         return false;
     }
     names_differ(rows)

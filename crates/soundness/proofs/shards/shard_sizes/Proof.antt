@@ -1,9 +1,11 @@
 -- `shards::shard_sizes` meets its contract: after i turns the sizes of the first i entries are stored. Assumes nothing.
+use mathlib.Core.Logic.{⊎-elim}
 use Prim.Native.Nat.{_-_}
 use mathlib.Core.List.{map}
 use lib.ListN.{replicate}
 use Rattle.lists.specs.ByteLoopLaws.{FillLoop, fills-of}
 use Rattle.rules.specs.Relays.{shardBytes}
+use Rattle.soundness.proofs.ShardLaws.{size-skipped, size-stored}
 use Rattle.soundness.proofs.shards.shard_sizes.Statement.{statement}
 use Rattle.soundness.proofs.shards.shard_sizes.Tie as tie
 
@@ -16,10 +18,12 @@ shard-sizes-spec =
     (λ c. search fills-of)
     (λ c. search fills-of)
     (λ c. search fills-of)
+    (λ c. search fills-of)
+    (λ c. search fills-of)
     (λ c κs. search fills-of)
     (λ c. search fills-of)
     (λ c. search fills-of)
     (λ c. search fills-of)
     (λ c. search fills-of)
-    (λ c. search fills-of)
+    (λ c. ⊎-elim (λ w. search size-stored) (λ w. search size-skipped) (c .if1 .came))
     (λ c. search fills-of))

@@ -1,7 +1,7 @@
 -- `tables::sound_tables` meets its contract: each test that led to a return is one of the rule's. Assumes nothing.
 use Rattle.rules.specs.Sound.{soundTables}
-use Rattle.lists.specs.AnswerLaws.{refused, said-yes}
-use Rattle.soundness.proofs.Told.{contents-hold, contents-fail, tables-pass}
+use Rattle.lists.specs.AnswerLaws.{refused, all-5, said-yes}
+use Rattle.soundness.proofs.Told.{volumes-held, entries-held}
 use borrow.Author.Needs.{needs}
 use Rattle.soundness.proofs.tables.sound_tables.Statement.{statement}
 use Rattle.soundness.proofs.tables.sound_tables.Tie as tie
@@ -16,6 +16,8 @@ sound-tables-spec =
     (λ c κs. search needs)
     (λ c. search refused depth 9)
     (λ c κs. search needs)
-    (λ c. search contents-fail)
-    (λ c κs. contents-hold _ _ _ (c .before .sound-contents .ensures) (c .if3 .left))
-    (λ c. search (tables-pass, said-yes)))
+    (λ c. search refused depth 9)
+    (λ c κs. search needs)
+    (λ c. search refused depth 9)
+    (λ c κs. (search volumes-held, search entries-held))
+    (λ c. search (all-5, said-yes)))

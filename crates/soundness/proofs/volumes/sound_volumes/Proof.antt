@@ -1,5 +1,6 @@
 use Rattle.rules.specs.Sound.{soundVolumes}
 use Rattle.lists.specs.AnswerLaws.{refused, passed}
+use Rattle.soundness.proofs.NumberLaws.{volumes-differ}
 use borrow.Author.Needs.{needs}
 use Rattle.soundness.proofs.volumes.sound_volumes.Statement.{statement}
 use Rattle.soundness.proofs.volumes.sound_volumes.Tie as tie
@@ -12,6 +13,8 @@ sound-volumes-spec =
     (λ c κs. search needs)
     (λ c. search refused depth 9)
     (λ c κs. search needs)
-    (λ c. search refused depth 9)
+    (λ c. search needs)
     (λ c κs. search needs)
-    (λ c. search passed depth 9))
+    (λ c. search (refused, volumes-differ) depth 9)
+    (λ c κs. search needs)
+    (λ c. search (passed, volumes-differ) depth 9))

@@ -1,0 +1,155 @@
+-- The loop that sums an entry's key, and what keys that differ say of two entries. Assumes nothing.
+use mathlib.Core.Path.{_≡_, refl, sym, _∙_, ap}
+use mathlib.Core.Bool.{Bool, true, false, not}
+use mathlib.Core.Logic.{⊎-elim}
+use mathlib.Core.List.{List, [], _∷_, map}
+use Prim.Native.Nat.{ℕ, zero, suc, _+_, _*_, _<_, _≤_, min}
+use mir.Val.{Fits}
+use mir.Syntax.{w8, w32, w64}
+use borrow.Author.Needs.{needs}
+use borrow.Author.Tests.{not-true, ltb-true, ltb-false, lt-ltb, eqb-true, eq-eqb, ne-eqb}
+use native.Mathlib.Omega.{arith}
+use native.Mathlib.Numerals.{add-one}
+use lib.Dec.{eqb}
+use lib.ListN.{length, take, drop, getD, set, replicate, drop-of-length-le, length-map, length-drop, length-take}
+use lib.Seq.{drop-cons, getD-take, getD-drop}
+use Rattle.lists.specs.Bytes.{sameBytes}
+use Rattle.lists.specs.ByteLaws.{same-eq}
+use Rattle.lists.specs.BoolLaws.{and-left, and-right, and-both, not-both, not-pass, pass-or-fail}
+use Rattle.lists.specs.Lists.{anyOf}
+use Rattle.lists.specs.TestLaws.{at-none, none-at, at-all, at-clash}
+use Rattle.lists.specs.RowLaws.{map-row}
+use Rattle.lists.specs.LoopLaws.{ClashLoop, clash-step, part-length}
+use Rattle.lists.specs.ByteLoopLaws.{FillLoop}
+use Rattle.text.specs.Text.{textBytes}
+use Rattle.rules.specs.declared.Entry.{Entry}
+use Rattle.rules.specs.declared.Tables.{Tables}
+use Rattle.rules.specs.Tables.{given, numbered}
+use Rattle.rules.specs.Sound.{soundEntry, soundEntries, sameEntry}
+use Rattle.rows.specs.Blank.{blankEntry}
+use Rattle.soundness.proofs.FillLaws.{fill-zero, fill-stored}
+use Rattle.soundness.specs.PathKeys.{keyOf, pathKey}
+
+-- the first k bytes of l are summed up to the byte i of n: sum is m with the bytes so far
+pub record KeyLoop (m : ℕ) (l : List ℕ) (k n sum key i : ℕ) : Type 0 where
+  pub size : length (take k l) ≡ n
+  pub most : n ≤ 128
+  pub rest : key + keyOf sum (drop i (take k l)) ≡ keyOf m (take k l)
+  pub sum-most : sum ≤ 4294967296 + 255 * i
+  pub at : i ≤ n
+  pub key-most : key ≤ 4295000000 * i
+  pub each : (j : ℕ) → Fits w8 (getD l j 0)
+
+module _ (m : ℕ) (l : List ℕ) (k n : ℕ) where
+  pub key-start : Fits w32 m → n ≡ min k 128 → length l ≡ 128 → ((j : ℕ) → Fits w8 (getD l j 0)) → KeyLoop m l k n m 0 0
+  key-start h e q f = record { each = f; at = omega arith; size = part-length l k 128 n e q; most = omega arith; rest = omega arith; sum-most = omega arith; key-most = omega arith }
+
+  module _ (sum key i : ℕ) (h : KeyLoop m l k n sum key i) where
+    pub key-end : (r : ℕ) → n ≤ i → r ≡ key + sum → r ≡ keyOf m (take k l)
+    unfolding keyOf
+    key-end r w e = e ∙ (rw (drop-of-length-le (take k l) {i = i} (omega (arith, h .size))) at (h .rest))
+
+    pub key-fits : Fits w64 (key + sum)
+    key-fits = record { fits = omega (arith, h .key-most, h .sum-most, h .most, h .at) }
+
+    module _ (w : i < n) where
+      pub key-step : (s′ k′ : ℕ) → s′ ≡ sum + getD l i 0 → k′ ≡ key + sum → KeyLoop m l k n s′ k′ (i + 1)
+      unfolding keyOf
+      key-step s′ k′ e f =
+          let there : getD (take k l) i 0 ≡ getD l i 0 = getD-take k l i 0 (omega (arith, length-take k l, h .size)) in
+          let r = rw (drop-cons (take k l) i 0 (omega (arith, h .size)), there) at (h .rest) in
+          rw (e, f)
+          (record { each = h .each; at = omega arith; size = h .size; most = h .most; rest = rw add-one (omega (arith, r)); sum-most = omega (arith, h .sum-most, h .each i .fits); key-most = omega (arith, h .key-most, h .sum-most, h .most) })
+
+      pub sum-fits : Fits w64 (sum + getD l i 0)
+      sum-fits = record { fits = omega (arith, h .sum-most, h .most, h .each i .fits) }
+
+pub ruleset keys = (key-step, key-fits, sum-fits, key-end, key-start, needs)
+
+-- entries of the same volume and path have the same key, and it is not 0
+key-least : (n : ℕ) (l : List ℕ) → n ≤ keyOf n l
+unfolding keyOf
+key-least n [] = omega arith
+key-least n (b ∷ bs) = omega arith
+
+used-key : (e : Entry) → 0 < e .volume .0 → pathKey e ≡ keyOf (e .volume .0) (textBytes (e .path))
+unfolding pathKey
+used-key e h = rw (ne-eqb (e .volume .0) 0 (omega arith))
+
+same-key : (a b : Entry) → sameEntry a b ≡ true → numbered (pathKey a) (pathKey b) ≡ true
+unfolding sameEntry
+same-key a b h =
+    let n = a .volume .0 in
+    let m = b .volume .0 in
+    let v = and-left (numbered n m) (sameBytes (textBytes (a .path)) (textBytes (b .path))) h in
+    let used : 0 < n = ltb-true 0 n (and-left (given n) (eqb m n) v) in
+    let same : m ≡ n = eqb-true m n (and-right (given n) (eqb m n) v) in
+    let text = same-eq (textBytes (a .path)) (textBytes (b .path)) (and-right (numbered n m) (sameBytes (textBytes (a .path)) (textBytes (b .path))) h) in
+    let k : keyOf m (textBytes (b .path)) ≡ keyOf n (textBytes (a .path)) = rw (same, text) in
+    let z = used-key a used in
+    let y = used-key b (omega arith) in
+    and-both (lt-ltb 0 (pathKey a) (omega (arith, z, key-least n (textBytes (a .path))))) (eq-eqb (pathKey b) (pathKey a) (y ∙ k ∙ sym z))
+
+-- so where no later key is an entry's, no later entry has its volume and path
+no-clash : (es : List Entry) (ks : List ℕ) (i : ℕ) → ks ≡ map pathKey es → i < length es → anyOf (numbered (getD ks i 0)) (drop (i + 1) ks) ≡ false
+    → anyOf (sameEntry (getD es i blankEntry)) (drop (i + 1) es) ≡ false
+no-clash es ks i e k h = at-none (sameEntry (getD es i blankEntry)) (drop (i + 1) es) blankEntry differs
+  where
+    key : (j : ℕ) → j < length es → getD ks j 0 ≡ pathKey (getD es j blankEntry)
+    key j w = ap (λ (l : List ℕ). getD l j 0) e ∙ map-row pathKey es j blankEntry 0 w
+
+    differs : (j : ℕ) → j < length (drop (i + 1) es) → sameEntry (getD es i blankEntry) (getD (drop (i + 1) es) j blankEntry) ≡ false
+    differs j w =
+        let x = i + 1 + j in
+        let below : x < length es = omega (arith, length-drop (i + 1) es) in
+        let size : length ks ≡ length es = ap (λ (l : List ℕ). length l) e ∙ length-map es pathKey in
+        let other = none-at (numbered (getD ks i 0)) (drop (i + 1) ks) h j (omega (arith, size, length-drop (i + 1) ks)) 0 in
+        let apart : numbered (pathKey (getD es i blankEntry)) (pathKey (getD es x blankEntry)) ≡ false =
+        rw (key i k, getD-drop (i + 1) ks j 0, key x below) at other in
+        rw (getD-drop (i + 1) es j blankEntry)
+        (not-pass (sameEntry (getD es i blankEntry) (getD es x blankEntry)) (λ t. not-both (same-key (getD es i blankEntry) (getD es x blankEntry) t) apart))
+
+-- a turn of the loop over the paths, where no later key is the same
+pub key-differs : (es : List Entry) (ks : List ℕ) (i : ℕ) (b : Bool) → ClashLoop sameEntry es 64 i → i < 64 → ks ≡ map pathKey es
+    → b ≡ anyOf (numbered (getD ks i 0)) (drop (i + 1) ks) → b ≡ false → ClashLoop sameEntry es 64 (i + 1)
+key-differs es ks i b h k e q w = clash-step blankEntry sameEntry es 64 i false h k (sym (no-clash es ks i e (omega (arith, h .size)) (sym q ∙ w))) refl
+
+-- a turn of the loop that stores the keys: a free row's is there already
+free-key : (e : Entry) → e .volume .0 ≡ 0 → pathKey e ≡ 0
+unfolding pathKey
+free-key e h = rw h
+
+module _ (es : List Entry) (i : ℕ) (out next : List ℕ) (h : FillLoop (replicate 64 0) 0 (map pathKey es) 64 i out) (k : i < 64) where
+  pub key-skipped : getD es i blankEntry .volume .0 ≡ 0 → next ≡ out → FillLoop (replicate 64 0) 0 (map pathKey es) 64 (i + 1) next
+  key-skipped e q = fill-zero pathKey blankEntry es 64 i out next h k (free-key (getD es i blankEntry) e) q
+
+  pub key-stored : (x : ℕ) → (getD es i blankEntry .volume .0 ≡ 0 → ⊥) → x ≡ keyOf (getD es i blankEntry .volume .0) (textBytes (getD es i blankEntry .path)) → next ≡ set out i x
+      → FillLoop (replicate 64 0) 0 (map pathKey es) 64 (i + 1) next
+  key-stored x n e q = fill-stored pathKey blankEntry es 64 i out next h k x (e ∙ sym (used-key (getD es i blankEntry) (omega arith))) q
+
+-- where no key is given, every row is free, and the entries are sound
+no-key : (e : Entry) → given (pathKey e) ≡ false → e .volume .0 ≡ 0
+no-key e h =
+    ⊎-elim
+    (λ w. absurd (omega (arith, ltb-true 0 (e .volume .0) w, ltb-false 0 (pathKey e) h, used-key e (ltb-true 0 (e .volume .0) w), key-least (e .volume .0) (textBytes (e .path)))))
+    (λ w. omega (arith, ltb-false 0 (e .volume .0) w))
+    (pass-or-fail (given (e .volume .0)))
+
+free-passes : (t : Tables) (e : Entry) → e .volume .0 ≡ 0 → soundEntry t e ≡ true
+unfolding soundEntry
+free-passes t e h = rw h
+
+free-differs : (a b : Entry) → a .volume .0 ≡ 0 → sameEntry a b ≡ false
+unfolding sameEntry
+free-differs a b h = rw h
+
+pub no-entries : (t : Tables) (ks : List ℕ) (b : Bool) → ks ≡ map pathKey (t .entries) → b ≡ anyOf given ks → not b ≡ true → true ≡ soundEntries t
+unfolding soundEntries
+no-entries t ks b e h w =
+    sym (and-both (at-all (soundEntry t) (t .entries) blankEntry (λ j k. free-passes t _ (free j k)))
+    (at-clash sameEntry (t .entries) blankEntry (λ i j k l. free-differs _ _ (free i (omega arith)))))
+  where
+    free : (j : ℕ) → j < length (t .entries) → getD (t .entries) j blankEntry .volume .0 ≡ 0
+    free j k =
+        let none = none-at given ks (sym h ∙ not-true b w) j (omega (arith, ap (λ (l : List ℕ). length l) e, length-map (t .entries) pathKey)) 0 in
+        no-key (getD (t .entries) j blankEntry) (rw (ap (λ (l : List ℕ). getD l j 0) e, map-row pathKey (t .entries) j blankEntry 0 k) at none)

@@ -1,0 +1,94 @@
+-- Tests of a table's rows by their numbers alone, where the numbers stand in a list of their own. Assumes nothing.
+use mathlib.Core.Path.{_≡_, refl, sym, _∙_, ap}
+use mathlib.Core.Bool.{Bool, true, false, not, _&&_}
+use mathlib.Core.List.{List, [], _∷_, map}
+use Prim.Native.Nat.{ℕ, _<_, _≤_}
+use borrow.Author.Tests.{not-true, not-false, ltb-false}
+use native.Mathlib.Omega.{arith}
+use lib.ListN.{length, getD, length-map}
+use Rattle.lists.specs.Lists.{allOf, anyOf, noClash}
+use Rattle.lists.specs.BoolLaws.{and-both}
+use Rattle.lists.specs.RowLaws.{map-row}
+use Rattle.lists.specs.TestLaws.{none-at, at-all, at-clash}
+use Rattle.lists.specs.LoopLaws.{AllLoop, all-failed, all-passed}
+use Rattle.rules.specs.declared.Volume.{Volume}
+use Rattle.rules.specs.declared.Relay.{Relay}
+use Rattle.rules.specs.declared.Tables.{Tables}
+use Rattle.rules.specs.Tables.{given, numbered}
+use Rattle.rules.specs.Sound.{sameVolume, sameToken, sameRelayRow, soundToken, soundTokens, soundRelay, soundRelays}
+use Rattle.rows.specs.Blank.{blankToken, blankRelay}
+use Rattle.soundness.specs.Numbers.{volumeNumber, tokenNumber, relayNumber}
+
+module _ {A : Type 0} (f : A → ℕ) where
+  any-mapped : (p : ℕ → Bool) (l : List A) → anyOf p (map f l) ≡ anyOf (λ x. p (f x)) l
+  unfolding anyOf
+  any-mapped p [] = refl
+  any-mapped p (x ∷ xs) = rw (any-mapped p xs)
+
+  clash-mapped : (clash : ℕ → ℕ → Bool) (l : List A) → noClash clash (map f l) ≡ noClash (λ x y. clash (f x) (f y)) l
+  unfolding noClash
+  clash-mapped clash [] = refl
+  clash-mapped clash (x ∷ xs) = rw (any-mapped (clash (f x)) xs, clash-mapped clash xs)
+
+-- b is what the test of the numbers said
+pub volumes-differ : (b : Bool) (ns : List ℕ) (l : List Volume) → b ≡ noClash numbered ns → ns ≡ map volumeNumber l → b ≡ noClash sameVolume l
+volumes-differ b ns l h e = rw e at h ∙ clash-mapped volumeNumber numbered l
+
+-- two parts of a test
+first-fails : (a b : Bool) → a ≡ false → false ≡ (a && b)
+first-fails a b e = sym (rw e)
+
+next-fails : (a b : Bool) → b ≡ false → false ≡ (a && b)
+next-fails true b e = sym e
+next-fails false b e = refl
+
+-- the tokens' test, by the test of their numbers and the loop over their rows
+module _ (t : Tables) (b : Bool) where
+  pub token-fails : (i : ℕ) → AllLoop (soundToken t) (t .tokens) 32 i → i < 32 → b ≡ soundToken t (getD (t .tokens) i blankToken) → not b ≡ true
+      → false ≡ soundTokens t
+  unfolding soundTokens
+  token-fails i h k e w = first-fails (allOf (soundToken t) (t .tokens)) (noClash sameToken (t .tokens)) (sym (all-failed blankToken (soundToken t) (t .tokens) 32 i b h k e w))
+
+  module _ (ns : List ℕ) (h : b ≡ noClash numbered ns) (e : ns ≡ map tokenNumber (t .tokens)) where
+    differ : b ≡ noClash sameToken (t .tokens)
+    differ = rw e at h ∙ clash-mapped tokenNumber numbered (t .tokens)
+
+    pub tokens-clash : not b ≡ true → false ≡ soundTokens t
+    unfolding soundTokens
+    tokens-clash w = next-fails (allOf (soundToken t) (t .tokens)) (noClash sameToken (t .tokens)) (sym differ ∙ not-true b w)
+
+    pub tokens-hold : (i : ℕ) → AllLoop (soundToken t) (t .tokens) 32 i → 32 ≤ i → not b ≡ false → true ≡ soundTokens t
+    unfolding soundTokens
+    tokens-hold i l k w = sym (and-both (sym (all-passed (soundToken t) (t .tokens) 32 i l k)) (sym differ ∙ not-false b w))
+
+-- the relays' test
+module _ (t : Tables) (b : Bool) where
+  pub relay-fails : (i : ℕ) → AllLoop (soundRelay t) (t .relays) 32 i → i < 32 → b ≡ soundRelay t (getD (t .relays) i blankRelay) → not b ≡ true
+      → false ≡ soundRelays t
+  unfolding soundRelays
+  relay-fails i h k e w = first-fails (allOf (soundRelay t) (t .relays)) (noClash sameRelayRow (t .relays)) (sym (all-failed blankRelay (soundRelay t) (t .relays) 32 i b h k e w))
+
+  pub relays-hold : (i : ℕ) (ns : List ℕ) → AllLoop (soundRelay t) (t .relays) 32 i → 32 ≤ i → ns ≡ map relayNumber (t .relays) → b ≡ noClash numbered ns
+      → b ≡ soundRelays t
+  unfolding soundRelays
+  relays-hold i ns l k e h =
+      rw (← all-passed (soundRelay t) (t .relays) 32 i l k) (rw e at h ∙ clash-mapped relayNumber numbered (t .relays))
+
+-- where no number is given, every row is free, and the relays are sound
+free-relay : (t : Tables) (x : Relay) → given (x .no .0) ≡ false → soundRelay t x ≡ true
+unfolding soundRelay
+free-relay t x h = let z : x .no .0 ≡ 0 = omega (arith, ltb-false 0 (x .no .0) h) in rw z
+
+free-row : (x y : Relay) → given (x .no .0) ≡ false → sameRelayRow x y ≡ false
+free-row x y h = rw h
+
+pub no-relays : (t : Tables) (ns : List ℕ) (b : Bool) → ns ≡ map relayNumber (t .relays) → b ≡ anyOf given ns → not b ≡ true → true ≡ soundRelays t
+unfolding soundRelays
+no-relays t ns b e h w =
+    sym (and-both (at-all (soundRelay t) (t .relays) blankRelay (λ j k. free-relay t _ (free j k)))
+    (at-clash sameRelayRow (t .relays) blankRelay (λ i j k l. free-row (getD (t .relays) i blankRelay) (getD (t .relays) j blankRelay) (free i (omega arith)))))
+  where
+    free : (j : ℕ) → j < length (t .relays) → given (getD (t .relays) j blankRelay .no .0) ≡ false
+    free j k =
+        let none = none-at given ns (sym h ∙ not-true b w) j (omega (arith, ap (λ (l : List ℕ). length l) e, length-map (t .relays) relayNumber)) 0 in
+        rw (ap (λ (l : List ℕ). getD l j 0) e, map-row relayNumber (t .relays) j blankRelay 0 k) at none

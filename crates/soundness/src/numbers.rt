@@ -1,0 +1,111 @@
+// Numbers in a row: those of a table's rows, or one for each of its rows.
+ghost use mathlib.Core.Path.{_≡_};
+ghost use lib.ListN.{drop};
+ghost use mathlib.Core.List.{map};
+ghost use Rattle.lists.specs.Lists.{anyOf, noClash};
+ghost use Rattle.rules.specs.Tables.{given, numbered};
+ghost use Rattle.soundness.specs.Numbers.{volumeNumber, tokenNumber, relayNumber};
+use rules::Relay;
+use rules::Token;
+use rules::Volume;
+
+// A row's number is n, and n is a number.
+fn is_number(n: u64, row: u64) -> bool
+    ensures { λ r. ⌜ r ≡ numbered n row ⌝ }
+{
+    if n == 0 {
+        return false;
+    }
+    row == n
+}
+
+// Whether a number from an index on is n.
+pub(crate) fn number_again(numbers: &[u64], n: u64, start: usize) -> bool
+    ensures { λ r. ⌜ r ≡ anyOf (numbered n) (drop start (now (numbers .entry))) ⌝ }
+{
+    let mut i = start;
+    while i < numbers.len() {
+        if is_number(n, numbers[i]) {
+            return true;
+        }
+        i += 1;
+    }
+    false
+}
+
+fn is_some(n: u64) -> bool
+    ensures { λ r. ⌜ r ≡ given n ⌝ }
+{
+    0 < n
+}
+
+// Whether some number is not 0.
+pub(crate) fn any_number(numbers: &[u64]) -> bool
+    ensures { λ r. ⌜ r ≡ anyOf given (now (numbers .entry)) ⌝ }
+{
+    let mut i: usize = 0;
+    while i < numbers.len() {
+        if is_some(numbers[i]) {
+            return true;
+        }
+        i += 1;
+    }
+    false
+}
+
+// No number is held twice.
+pub(crate) fn numbers_differ(numbers: &[u64]) -> bool
+    ensures { λ r. ⌜ r ≡ noClash numbered (now (numbers .entry)) ⌝ }
+{
+    let mut i: usize = 0;
+    while i < numbers.len() {
+        if number_again(numbers, numbers[i], i + 1) {
+            return false;
+        }
+        i += 1;
+    }
+    true
+}
+
+// A row's number in 64 bits.
+fn wide(n: u32) -> u64
+    ensures { λ r. ⌜ r ≡ n ⌝ }
+{
+    n as u64
+}
+
+pub(crate) fn volume_numbers(rows: [Volume; 8]) -> [u64; 8]
+    ensures { λ r. ⌜ r ≡ map volumeNumber rows ⌝ }
+{
+    let mut numbers = [0u64; 8];
+    let mut i: usize = 0;
+    while i < 8 {
+        numbers[i] = wide(rows[i].no.0);
+        i += 1;
+    }
+    numbers
+}
+
+pub(crate) fn token_numbers(rows: [Token; 32]) -> [u64; 32]
+    ensures { λ r. ⌜ r ≡ map tokenNumber rows ⌝ }
+{
+    let mut numbers = [0u64; 32];
+    let mut i: usize = 0;
+    while i < 32 {
+        numbers[i] = wide(rows[i].no.0);
+        i += 1;
+    }
+    numbers
+}
+
+pub(crate) fn relay_numbers(rows: [Relay; 32]) -> [u64; 32]
+    ensures { λ r. ⌜ r ≡ map relayNumber rows ⌝ }
+{
+    let mut numbers = [0u64; 32];
+    let mut i: usize = 0;
+    while i < 32 {
+        numbers[i] = wide(rows[i].no.0);
+        i += 1;
+    }
+    numbers
+}
