@@ -6,8 +6,8 @@ use lib.ListN.{length}
 use Rattle.transcripts.proofs.GroupLaws.{relays-stand, relays-said, relays-carried, volumes-stand, volumes-said, volumes-carried, tokens-stand, tokens-said, tokens-carried, slot-stand, slot-said, slot-carried, look-stand, look-said, look-carried, wide-stand, wide-said, wide-carried}
 use borrow.Author.Needs.{needs}
 use Rattle.transcripts.proofs.ReplayLaws.{ReplayLoop, replay-start, count-fits, ends, stops, places, line-room, fewer-left, replay-step}
-use Rattle.transcripts.proofs.replay.replay_records.Statement.{statement}
-use Rattle.transcripts.proofs.replay.replay_records.Tie as tie
+use Rattle.transcripts.proofs.records.replay_records.Statement.{statement}
+use Rattle.transcripts.proofs.records.replay_records.Tie as tie
 
 pub replay-records-spec : {M : Type 1} → statement M
 replay-records-spec =
@@ -22,10 +22,12 @@ replay-records-spec =
     (λ c κs. search places)
     (λ c. search needs)
     (λ c κs. search ends)
+    (λ c κs. search needs)
     (λ c. search needs)
     (λ c. search ends)  -- the end
     (λ c. search needs)
     (λ c κs. search stops)
+    (λ c κs. search needs)
     (λ c. search needs)
     (λ c. search stops)  -- a fault
     (λ c. search needs)

@@ -1,4 +1,4 @@
-// A journal replayed from a fresh desk on, its transcript written into a lent buffer.
+// The records of a journal carried out one after another from a fresh desk on, their lines written into a lent buffer.
 ghost use mathlib.Core.Path.{_≡_};
 ghost use mathlib.Core.Bool.{true};
 ghost use Prim.Native.Nat.{_+_, _<_, _≤_};
@@ -7,12 +7,12 @@ ghost use lib.Pow.{areBytes};
 ghost use Rattle.rules.specs.Fresh.{freshDesk};
 ghost use Rattle.journal.specs.Records.{v01};
 ghost use Rattle.journal.specs.Journal.{records};
-ghost use Rattle.transcripts.specs.Replay.{answerOf, bufferOf};
-ghost use Rattle.transcripts.specs.Room.{roomFor};
+ghost use Rattle.transcripts.specs.Parts.{deskOf};
+ghost use Rattle.transcripts.specs.Replay.{Replays};
 ghost use Rattle.transcripts.specs.Transcript.{programRate};
 ghost use Rattle.transcripts.specs.TranscriptLaws.{printedFrom};
-ghost use Rattle.transcripts.specs.Written.{Wrote};
 use super::Group;
+use super::Replayed;
 use super::carry::look_call;
 use super::carry::relay_call;
 use super::carry::slot_call;
@@ -21,22 +21,36 @@ use super::carry::volume_call;
 use super::items::body_at;
 use super::items::item_at;
 use super::lines::put_end_line;
-use super::lines::put_first_line;
 use super::lines::put_record_line;
 use super::lines::put_stop_line;
 use super::wide::wide_call;
-use journal::Written;
-use journal::start_fault;
-use rules::numbers::ROOM;
+use rules::Desk;
+use rules::Session;
+use rules::Tables;
 
 // The price of storage on the program's desk.
-const RATE: u16 = 100;
+pub(crate) const RATE: u16 = 100;
+
+// The transcript has so many bytes, and these are the tables and the slots after the calls.
+fn done(len: usize, t: Tables, slots: [Session; 4]) -> Replayed
+    ensures { λ r. ⌜ r ≡ record { number = 0; len = len; desk = deskOf t slots } ⌝ }
+{
+    let desk = Desk {
+        tables: t,
+        sessions: slots,
+    };
+    Replayed {
+        number: 0,
+        len,
+        desk,
+    }
+}
 
 // The records of a journal one after another, and the last line. Each call's part is stored in place, so that a heartbeat moves
 // the relay table and nothing else.
-fn replay_records(journal: &[u8], out: &mut [u8], start: usize) -> usize
+pub(crate) fn replay_records(journal: &[u8], out: &mut [u8], start: usize) -> Replayed
     requires { ⌜ (areBytes (now journal) ≡ true) × (length (now journal) < 65536) × (start + length (printedFrom 0 (freshDesk programRate) (records v01 (now journal))) ≤ length (now out)) ⌝ }
-    ensures { λ r. ⌜ Wrote start (printedFrom 0 (freshDesk programRate) (records v01 (now (journal .entry)))) (now (out .entry)) r (now (out .exit)) ⌝ }
+    ensures { λ r. ⌜ Replays start (records v01 (now (journal .entry))) (now (out .entry)) r (now (out .exit)) ⌝ }
 {
     let mut t = rules::fresh_tables(RATE);
     let session = rules::fresh_session();
@@ -50,8 +64,8 @@ fn replay_records(journal: &[u8], out: &mut [u8], start: usize) -> usize
         let group = item.group;
         let body = body_at(journal, p, item.after);
         let answer = match group {
-            Group::End => return put_end_line(out, at, n),
-            Group::Stop(number) => return put_stop_line(out, at, n, number),
+            Group::End => return done(put_end_line(out, at, n), t, slots),
+            Group::Stop(number) => return done(put_stop_line(out, at, n, number), t, slots),
             Group::Relays(which) => {
                 let o = relay_call(t, which, r);
                 let relays = o.relays;
@@ -95,39 +109,4 @@ fn replay_records(journal: &[u8], out: &mut [u8], start: usize) -> usize
         n += 1;
         at = put_record_line(out, at, n, answer);
     }
-}
-
-// The most bytes of a journal whose records are read.
-const JOURNAL_MOST: usize = 65536;
-
-// How many bytes a buffer must have for the transcript of a journal of so many bytes; 655,381 are enough for any.
-pub fn room_for(journal: usize) -> usize
-    ensures { λ r. ⌜ r ≡ roomFor journal ⌝ }
-{
-    if JOURNAL_MOST < journal {
-        return 21 + 10 * JOURNAL_MOST;
-    }
-    21 + 10 * journal
-}
-
-// Writes the transcript of a journal at the start of a buffer, and gives its length; or refuses with 12, and leaves the buffer as
-// it was.
-pub fn replay_into(journal: &[u8], out: &mut [u8]) -> Written
-    ensures answer { λ r. ⌜ r ≡ answerOf (now (journal .entry)) (now (out .entry)) ⌝ }
-    ensures buffer { λ r. ⌜ now (out .exit) ≡ bufferOf (now (journal .entry)) (now (out .entry)) ⌝ }
-{
-    if out.len() < room_for(journal.len()) {
-        return Written {
-            number: ROOM,
-            len: 0,
-        };
-    }
-    let at = put_first_line(out, 0);
-    let fault = start_fault(journal);
-    if fault != 0 {
-        let len = put_stop_line(out, at, 0, fault);
-        return Written { number: 0, len };
-    }
-    let len = replay_records(&journal[1..], out, at);
-    Written { number: 0, len }
 }
