@@ -1,6 +1,6 @@
 -- What is left in lent numbers, from the variant or the number that a function answered. Assumes nothing.
 use mathlib.Core.Path.{_≡_, refl}
-use mathlib.Core.Bool.{Bool, true, false}
+use mathlib.Core.Bool.{Bool, true, false, cond}
 use mathlib.Core.List.{List}
 use Prim.Native.Nat.{ℕ}
 use borrow.Author.Tests.{ne-eqb}
@@ -13,7 +13,9 @@ use Rattle.amount.specs.declared.Written.the-variants as wrote
 use Rattle.journal.specs.declared.Written as replayed
 use Rattle.amount.specs.Amount.{readNumber}
 use Rattle.amount.specs.Writing.{writtenOf, writtenNumber, bufferAfter}
-use Rattle.library.specs.Results.{capOf, limitedAfter, bytesAfter, lengthAfter, writtenAfter}
+use Rattle.rules.specs.Sound.{sound}
+use Rattle.transcripts.specs.declared.Replayed.{Replayed}
+use Rattle.library.specs.Results.{capOf, limitedAfter, bytesAfter, lengthAfter, writtenAfter, testsPassed}
 
 pub cap-bytes : {limited : Bool} (n : ℕ) → limited ≡ true → Bytes n ≡ capOf limited n
 unfolding capOf
@@ -85,3 +87,12 @@ module _ {r x : replayed.Written} (e : r ≡ x) where
   pub short-length : (n : ℕ) → (r .number ≡ 0 → ⊥) → n ≡ writtenAfter (x .number) (x .len) n
   unfolding writtenAfter
   short-length n z = rw (← e, ne-eqb (r .number) 0 z) refl
+
+module _ {r x : Replayed} (e : r ≡ x) (times : ℕ) where
+  pub tested : {n : ℕ} → r .number ≡ 0 → n ≡ cond (sound (r .desk)) times 0 → n ≡ testsPassed x times
+  unfolding testsPassed
+  tested z w = rw (← e, z) w
+
+  pub untested : (r .number ≡ 0 → ⊥) → 0 ≡ testsPassed x times
+  unfolding testsPassed
+  untested z = rw (← e, ne-eqb (r .number) 0 z) refl

@@ -9,6 +9,8 @@ use Rattle.amount.specs.declared.ReadAmount.{ReadAmount}
 use Rattle.amount.specs.declared.ReadAmount.the-variants.{Read, Refused}
 use Rattle.amount.specs.declared.Written.{Written}
 use Rattle.amount.specs.declared.Written.the-variants as wrote
+use Rattle.rules.specs.Sound.{sound}
+use Rattle.transcripts.specs.declared.Replayed.{Replayed}
 
 -- a cap as two parts: whether it is a count of bytes, and the count, which stands for nothing where there is no limit
 unfoldable pub capOf : Bool → ℕ → Cap
@@ -35,3 +37,7 @@ lengthAfter (wrote.Refused r) before = before
 -- how many bytes a replay wrote, where its number is 0
 unfoldable pub writtenAfter : ℕ → ℕ → ℕ → ℕ
 writtenAfter number len before = cond (eqb number 0) len before
+
+-- how many of so many tests the desk after a replay passes; none where there was no replay
+unfoldable pub testsPassed : Replayed → ℕ → ℕ
+testsPassed r times = cond (eqb (r .number) 0) (cond (sound (r .desk)) times 0) 0

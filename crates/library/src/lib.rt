@@ -1,16 +1,20 @@
 // The functions that C and Rust programs call. Each is written into the static library under its own name; bindings/pailorchard.h
 // declares them. A byte slice is a pointer and a length. A refusal answers its number and leaves all that was lent as it was.
 ghost use mathlib.Core.Path.{_≡_};
+ghost use mathlib.Core.Bool.{cond};
 ghost use lib.ListN.{length};
 ghost use Rattle.amount.specs.Amount.{amountOf, readNumber};
 ghost use Rattle.amount.specs.Writing.{writtenOf, writtenNumber, bufferAfter};
 ghost use Rattle.text.specs.Text.{isPath, isPrefix, isName};
-ghost use Rattle.transcripts.specs.Replay.{answerOf, bufferOf};
+ghost use Rattle.rules.specs.Sound.{sound};
+ghost use Rattle.transcripts.specs.Replay.{answerOf, bufferOf, replayedOf};
 ghost use Rattle.transcripts.specs.Room.{roomFor};
-ghost use Rattle.library.specs.Results.{capOf, limitedAfter, bytesAfter, lengthAfter, writtenAfter};
+ghost use Rattle.library.specs.Results.{capOf, limitedAfter, bytesAfter, lengthAfter, writtenAfter, testsPassed};
 use amount::Cap;
 use amount::ReadAmount;
 use amount::Written;
+use rules::Desk;
+use soundness::is_sound;
 
 // Whether a text is a path of 01.
 #[no_mangle]
@@ -113,4 +117,37 @@ pub extern "C" fn pailorchard_replay(journal: &[u8], out: &mut [u8], written: &m
         *written = r.len;
     }
     number
+}
+
+// Tests a desk so many times, and gives how many of the tests it passed. Its slots are stored again between them, so that each test is
+// made.
+fn passed(d: Desk, times: u64) -> u64
+    ensures { λ r. ⌜ r ≡ cond (sound d) times 0 ⌝ }
+{
+    let slots = d.sessions;
+    let mut desk = d;
+    let mut n: u64 = 0;
+    while n < times {
+        if !is_sound(desk) {
+            return n;
+        }
+        desk.sessions = slots;
+        n += 1;
+    }
+    n
+}
+
+// For the benchmark: tests the desk after a journal so many times, and gives how many of the tests it passed; 0 where the buffer for the
+// transcript is too short.
+#[no_mangle]
+pub extern "C" fn pailorchard_test_desk(journal: &[u8], transcript: &mut [u8], times: u64) -> u64
+    ensures { λ r. ⌜ r ≡ testsPassed (replayedOf (now (journal .entry)) (now (transcript .entry))) times ⌝ }
+    ensures { λ _. ⌜ now (transcript .exit) ≡ bufferOf (now (journal .entry)) (now (transcript .entry)) ⌝ }
+{
+    let r = transcripts::replay(journal, transcript);
+    if r.number != 0 {
+        return 0;
+    }
+    let d = r.desk;
+    passed(d, times)
 }
