@@ -7,9 +7,12 @@ use borrow.Author.Needs.{needs}
 use lib.ListN.{length, take, drop, set, length-append, length-set, length-drop, take-append-drop}
 use lib.Seq.{append-snoc, take-set-le, set-split, drop-at, take-at, drop-drop, length-take-le, take-length}
 use Rattle.lists.specs.ByteLoopLaws.{FillLoop, fill-end}
+use Rattle.amount.specs.declared.Cap.{Cap}
+use Rattle.amount.specs.declared.Cap.the-variants.{Unlimited, Bytes}
 use Rattle.journal.specs.Numbers.{bytesOf}
 use Rattle.journal.specs.NumberLaws.{length-bytesOf}
 use Rattle.journal.specs.Writes.{over}
+use Rattle.desk_bytes.specs.Layout.{capBytes}
 use Rattle.desk_bytes.specs.Written.{Wrote}
 
 -- nothing written
@@ -54,21 +57,31 @@ over-over at a b buf h =
     ∙ ap (λ (m : List ℕ). m ++ drop (p + length b) buf) (append-assoc (take at buf) a b) ∙ ap (λ (k : ℕ). take at buf ++ (a ++ b) ++ drop k buf) n
 
 -- a part after the parts before it: m is the buffer after those, which end at p
-pub part-after : (at : ℕ) (a b out : List ℕ) (p : ℕ) (m : List ℕ) (r : ℕ) (out′ : List ℕ) → Wrote p b m r out′ → Wrote at a out p m
+pub two-parts : (at : ℕ) (a b out : List ℕ) (p : ℕ) (m : List ℕ) (r : ℕ) (out′ : List ℕ) → Wrote p b m r out′ → Wrote at a out p m
     → Wrote at (a ++ b) out r out′
-part-after at a b out p m r out′ f w =
-    let l : length m ≡ length out = ap length (w .buffer) ∙ length-over at a out (w .room) in
-    record {
-      room = omega (arith, w .place, f .room, length-append a b);
-      place = omega (arith, w .place, f .place, length-append a b);
-      buffer = f .buffer ∙ rw (w .place, w .buffer) (over-over at a b out (w .room));
-    }
+unfolding Wrote
+two-parts at a b out p m r out′ f w =
+    let l : length m ≡ length out = ap length (w .2) ∙ length-over at a out (w .0) in
+    (omega (arith, length-append a b), omega (arith, length-append a b), f .2 ∙ rw (w .1, w .2) (over-over at a b out (w .0)))
+
+-- three parts, the last first
+pub three-parts : (at : ℕ) (a b c out : List ℕ) (p q : ℕ) (m n : List ℕ) (r : ℕ) (out′ : List ℕ) → Wrote q c n r out′ → Wrote p b m q n → Wrote at a out p m
+    → Wrote at (a ++ b ++ c) out r out′
+three-parts at a b c out p q m n r out′ w₃ w₂ w₁ = two-parts at (a ++ b) c out q n r out′ w₃ (two-parts at a b out p m q n w₂ w₁)
 
 -- no part
 pub part-none : (at : ℕ) (out : List ℕ) → at ≤ length out → Wrote at [] out at out
-part-none at out h = record { room = omega arith; place = omega arith; buffer = sym (over-none at out) }
+unfolding Wrote
+part-none at out h = (omega arith, omega arith, sym (over-none at out))
 
-pub ruleset parts = (part-after)
+-- a buffer keeps its length
+pub wrote-length : (at r : ℕ) (b out out′ : List ℕ) → Wrote at b out r out′ → length out′ ≡ length out
+unfolding Wrote
+wrote-length at r b out out′ w = ap length (w .2) ∙ length-over at b out (w .0)
+
+-- a number that another function gave
+pub number-is : (w n k at : ℕ) (out : List ℕ) (r : ℕ) (out′ : List ℕ) → Wrote at (bytesOf w n) out r out′ → n ≡ k → Wrote at (bytesOf w k) out r out′
+number-is w n k at out r out′ h e = rw e at h
 
 -- a turn of the loop that writes a number from its last byte
 number-turn : (at j n : ℕ) (buf : List ℕ) → at + j < length buf → over at (bytesOf j (n / 256)) (set buf (at + j) (n % 256)) ≡ over at (bytesOf (suc j) n) buf
@@ -101,22 +114,26 @@ module _ (out₀ : List ℕ) (at w n : ℕ) where
         }
 
     pub number-end : i ≤ 0 → Wrote at (bytesOf w n) out₀ (at + w) out
-    unfolding bytesOf
+    unfolding bytesOf Wrote
     number-end k =
         let z : i ≡ 0 = omega arith in
-        record {
-          room = omega (arith, length-bytesOf w n);
-          place = omega (arith, length-bytesOf w n);
-          buffer = sym (over-none at out) ∙ ap (λ (j : ℕ). over at (bytesOf j rest) out) (sym z) ∙ h .left;
-        }
+        let l : length (bytesOf w n) ≡ w = length-bytesOf w n in
+        (omega arith, omega arith, sym (over-none at out) ∙ ap (λ (j : ℕ). over at (bytesOf j rest) out) (sym z) ∙ h .left)
 
 pub ruleset numbers = (number-step, number-end, number-start, needs)
 
 -- the end of a loop that copies all of s
 pub copied : (at : ℕ) (s buf : List ℕ) (i : ℕ) (out : List ℕ) → FillLoop buf at s (length s) i out → length s ≤ i → Wrote at s buf (at + length s) out
+unfolding Wrote
 copied at s buf i out h k =
-    record {
-      room = h .room;
-      place = refl;
-      buffer = fill-end buf at s (length s) i out h k ∙ ap (λ (m : List ℕ). take at buf ++ m ++ drop (at + length s) buf) (take-length s);
-    }
+    (h .room, refl, fill-end buf at s (length s) i out h k ∙ ap (λ (m : List ℕ). take at buf ++ m ++ drop (at + length s) buf) (take-length s))
+
+-- a cap, by its arm
+module _ (cap : Cap) (at : ℕ) (out : List ℕ) (r : ℕ) (out′ : List ℕ) where
+  pub unlimited-is : cap ≡ Unlimited → Wrote at (bytesOf 1 0 ++ bytesOf 8 0) out r out′ → Wrote at (capBytes cap) out r out′
+  unfolding capBytes
+  unlimited-is e h = rw e h
+
+  pub count-is : (n : ℕ) → cap ≡ Bytes n → Wrote at (bytesOf 1 1 ++ bytesOf 8 n) out r out′ → Wrote at (capBytes cap) out r out′
+  unfolding capBytes
+  count-is n e h = rw e h

@@ -10,7 +10,7 @@ use lib.ListN.{length, take, getD}
 use lib.Seq.{take-suc, take-length}
 use Rattle.lists.specs.RowLaws.{rows-length}
 use Rattle.desk_bytes.specs.Written.{Wrote}
-use Rattle.desk_bytes.proofs.OverLaws.{part-after, part-none, length-over}
+use Rattle.desk_bytes.proofs.OverLaws.{two-parts, part-none, wrote-length}
 
 module _ {A : Type 0} (f : A → List ℕ) where
   -- one row more
@@ -55,7 +55,7 @@ module _ {A : Type 0} (f : A → List ℕ) (w : ℕ) (rows : List A) (n start : 
     pub rows-step : (d : A) (r : ℕ) (out′ : List ℕ) → i < n → Wrote at (f (getD rows i d)) out r out′ → r ≡ at + w
         → RowsLoop f w rows n start out₀ (i + 1) r out′
     rows-step d r out′ k b e =
-        let s : length out′ ≡ length out = ap length (b .buffer) ∙ length-over at (f (getD rows i d)) out (b .room) in
+        let s : length out′ ≡ length out = wrote-length at r (f (getD rows i d)) out out′ b in
         let q : (i + 1) * w ≡ i * w + w = rw (add-one i) (suc-mul i w) in
         record {
           count = h .count;
@@ -63,13 +63,13 @@ module _ {A : Type 0} (f : A → List ℕ) (w : ℕ) (rows : List A) (n start : 
           here = omega (arith, h .here);
           room = h .room;
           size = s ∙ h .size;
-          wrote = rw (flat-suc f rows i d (omega (arith, h .count))) (part-after start (flatMap f (take i rows)) (f (getD rows i d)) out₀ at out r out′ b (h .wrote));
+          wrote = rw (flat-suc f rows i d (omega (arith, h .count))) (two-parts start (flatMap f (take i rows)) (f (getD rows i d)) out₀ at out r out′ b (h .wrote));
         }
 
-    pub rows-end : n ≤ i → (at ≡ start + n * w) × Wrote start (flatMap f rows) out₀ at out
+    pub rows-end : n ≤ i → Wrote start (flatMap f rows) out₀ at out
     rows-end k =
         let z : i ≡ n = omega (arith, h .turn) in
         let t : take i rows ≡ rows = rw (z, ← h .count) (take-length rows) in
-        (rw (← z) (h .here), rw t at (h .wrote))
+        rw t at (h .wrote)
 
-pub ruleset rows = (row-room, rows-step, rows-end, rows-start, rows-length, needs)
+pub ruleset rows-written = (row-room, rows-step, rows-end, rows-start, rows-length, needs)

@@ -118,15 +118,13 @@ sessionLength = 4 + 4 + 4 + 8 + putRows * putLength
 -- last_relay 4, deposits 8",
 unfoldable pub tablesBytes : Tables → List ℕ
 tablesBytes t =
-    (bytesOf 8 (t .clock) ++ bytesOf 2 (t .rate))
-    ++ (flatMap volumeBytes (t .volumes) ++ flatMap entryBytes (t .entries) ++ flatMap tokenBytes (t .tokens) ++ flatMap relayBytes (t .relays))
-    ++ (bytesOf 4 (t .«last_volume») ++ bytesOf 4 (t .«last_token») ++ bytesOf 4 (t .«last_relay») ++ bytesOf 8 (t .deposits))
-
-abbrev pub rowsLength : ℕ
-rowsLength = volumeRows * volumeLength + entryRows * entryLength + tokenRows * tokenLength + relayRows * relayLength
+    (bytesOf 8 (t .clock) ++ bytesOf 2 (t .rate) ++ flatMap volumeBytes (t .volumes) ++ flatMap entryBytes (t .entries))
+    ++ (flatMap tokenBytes (t .tokens) ++ flatMap relayBytes (t .relays)
+    ++ (bytesOf 4 (t .«last_volume») ++ bytesOf 4 (t .«last_token») ++ bytesOf 4 (t .«last_relay») ++ bytesOf 8 (t .deposits)))
 
 abbrev pub tablesLength : ℕ
-tablesLength = (8 + 2) + rowsLength + (4 + 4 + 4 + 8)
+tablesLength =
+    (8 + 2 + volumeRows * volumeLength + entryRows * entryLength) + (tokenRows * tokenLength + relayRows * relayLength + (4 + 4 + 4 + 8))
 
 -- "then 4 session slots (5,712). 32,406 bytes in all."
 unfoldable pub deskBytes : Desk → List ℕ

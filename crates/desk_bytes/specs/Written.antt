@@ -6,7 +6,5 @@ use lib.ListN.{length}
 use Rattle.journal.specs.Writes.{over}
 
 -- the bytes b stand from `at` on, over those of the buffer, and all others are as they were; r is the place after them
-pub record Wrote (at : ℕ) (b buf : List ℕ) (r : ℕ) (left : List ℕ) : Type 0 where
-  pub room : at + length b ≤ length buf
-  pub place : r ≡ at + length b
-  pub buffer : left ≡ over at b buf
+unfoldable pub Wrote : (at : ℕ) (b buf : List ℕ) (r : ℕ) (left : List ℕ) → Type 0
+Wrote at b buf r left = (at + length b ≤ length buf) × (r ≡ at + length b) × (left ≡ over at b buf)

@@ -13,9 +13,10 @@ mod tables;
 use desk::put_desk;
 use rules::Desk;
 use rules::numbers::ROOM;
+use text::PATH_LIMIT;
 
-// How many bytes a desk has.
-pub const DESK_BYTES: usize = 32_406;
+// How many bytes a desk has: its 136 texts, and all else.
+pub const DESK_BYTES: usize = 136 * PATH_LIMIT + 14_998;
 
 // The same, for a caller that lends the buffer.
 pub fn desk_room() -> usize

@@ -1,5 +1,6 @@
 // The parts that rows are made of, each written from a place on. Each function gives the place after its part.
 ghost use mathlib.Core.Path.{_≡_};
+ghost use mathlib.Core.List.{_++_};
 ghost use Prim.Native.Nat.{_+_, _≤_};
 ghost use lib.ListN.{length};
 ghost use Rattle.text.specs.Text.{pathLimit};
@@ -18,7 +19,7 @@ use text::PATH_LIMIT;
 use text::Text;
 
 // A number in `w` bytes, the last byte first.
-pub(crate) fn put_number(out: &mut [u8], at: usize, w: usize, n: u64) -> usize
+fn put_number(out: &mut [u8], at: usize, w: usize, n: u64) -> usize
     requires { ⌜ at + w ≤ length (now out) ⌝ }
     ensures { λ r. ⌜ (r ≡ at + w) × Wrote at (bytesOf w n) (now (out .entry)) r (now (out .exit)) ⌝ }
 {
@@ -31,6 +32,52 @@ pub(crate) fn put_number(out: &mut [u8], at: usize, w: usize, n: u64) -> usize
         rest = rest / 256;
     }
     at + w
+}
+
+// A number of each type, in as many bytes as the type has.
+pub(crate) fn put_u8(out: &mut [u8], at: usize, n: u8) -> usize
+    requires { ⌜ at + 1 ≤ length (now out) ⌝ }
+    ensures { λ r. ⌜ (r ≡ at + 1) × Wrote at (bytesOf 1 n) (now (out .entry)) r (now (out .exit)) ⌝ }
+{
+    put_number(out, at, 1, n as u64)
+}
+
+pub(crate) fn put_u16(out: &mut [u8], at: usize, n: u16) -> usize
+    requires { ⌜ at + 2 ≤ length (now out) ⌝ }
+    ensures { λ r. ⌜ (r ≡ at + 2) × Wrote at (bytesOf 2 n) (now (out .entry)) r (now (out .exit)) ⌝ }
+{
+    put_number(out, at, 2, n as u64)
+}
+
+pub(crate) fn put_u32(out: &mut [u8], at: usize, n: u32) -> usize
+    requires { ⌜ at + 4 ≤ length (now out) ⌝ }
+    ensures { λ r. ⌜ (r ≡ at + 4) × Wrote at (bytesOf 4 n) (now (out .entry)) r (now (out .exit)) ⌝ }
+{
+    put_number(out, at, 4, n as u64)
+}
+
+pub(crate) fn put_u64(out: &mut [u8], at: usize, n: u64) -> usize
+    requires { ⌜ at + 8 ≤ length (now out) ⌝ }
+    ensures { λ r. ⌜ (r ≡ at + 8) × Wrote at (bytesOf 8 n) (now (out .entry)) r (now (out .exit)) ⌝ }
+{
+    put_number(out, at, 8, n)
+}
+
+pub(crate) fn put_usize(out: &mut [u8], at: usize, n: usize) -> usize
+    requires { ⌜ at + 8 ≤ length (now out) ⌝ }
+    ensures { λ r. ⌜ (r ≡ at + 8) × Wrote at (bytesOf 8 n) (now (out .entry)) r (now (out .exit)) ⌝ }
+{
+    put_number(out, at, 8, n as u64)
+}
+
+// Three numbers of 4 bytes each.
+pub(crate) fn put_three(out: &mut [u8], at: usize, x: u32, y: u32, z: u32) -> usize
+    requires { ⌜ at + (4 + 4 + 4) ≤ length (now out) ⌝ }
+    ensures { λ r. ⌜ (r ≡ at + (4 + 4 + 4)) × Wrote at (bytesOf 4 x ++ bytesOf 4 y ++ bytesOf 4 z) (now (out .entry)) r (now (out .exit)) ⌝ }
+{
+    let a = put_u32(out, at, x);
+    let b = put_u32(out, a, y);
+    put_u32(out, b, z)
 }
 
 // Bytes.
@@ -61,7 +108,7 @@ pub(crate) fn put_text(out: &mut [u8], at: usize, t: Text) -> usize
 {
     let bytes = t.bytes;
     let p = put_text_bytes(out, at, &bytes);
-    put_number(out, p, 8, t.len as u64)
+    put_usize(out, p, t.len)
 }
 
 // The 32 bytes of an account or a hash.
@@ -94,17 +141,17 @@ pub(crate) fn put_cap(out: &mut [u8], at: usize, cap: Cap) -> usize
 {
     match cap {
         Cap::Unlimited => {
-            let p = put_number(out, at, 1, 0);
-            put_number(out, p, 8, 0)
+            let p = put_u8(out, at, 0);
+            put_u64(out, p, 0)
         }
         Cap::Bytes(n) => {
-            let p = put_number(out, at, 1, 1);
-            put_number(out, p, 8, n)
+            let p = put_u8(out, at, 1);
+            put_u64(out, p, n)
         }
     }
 }
 
-fn mode_number(mode: Mode) -> u64
+fn mode_number(mode: Mode) -> u8
     ensures { λ r. ⌜ r ≡ modeNumber mode ⌝ }
 {
     match mode {
@@ -118,10 +165,10 @@ pub(crate) fn put_mode(out: &mut [u8], at: usize, mode: Mode) -> usize
     requires { ⌜ at + 1 ≤ length (now out) ⌝ }
     ensures { λ r. ⌜ (r ≡ at + 1) × Wrote at (bytesOf 1 (modeNumber mode)) (now (out .entry)) r (now (out .exit)) ⌝ }
 {
-    put_number(out, at, 1, mode_number(mode))
+    put_u8(out, at, mode_number(mode))
 }
 
-fn status_number(status: Status) -> u64
+fn status_number(status: Status) -> u8
     ensures { λ r. ⌜ r ≡ statusNumber status ⌝ }
 {
     match status {
@@ -135,7 +182,7 @@ pub(crate) fn put_status(out: &mut [u8], at: usize, status: Status) -> usize
     requires { ⌜ at + 1 ≤ length (now out) ⌝ }
     ensures { λ r. ⌜ (r ≡ at + 1) × Wrote at (bytesOf 1 (statusNumber status)) (now (out .entry)) r (now (out .exit)) ⌝ }
 {
-    put_number(out, at, 1, status_number(status))
+    put_u8(out, at, status_number(status))
 }
 
 pub(crate) fn put_placement(out: &mut [u8], at: usize, p: Placement) -> usize
@@ -144,5 +191,5 @@ pub(crate) fn put_placement(out: &mut [u8], at: usize, p: Placement) -> usize
 {
     let relays = p.relays;
     let a = put_relay_numbers(out, at, relays);
-    put_number(out, a, 8, p.len as u64)
+    put_usize(out, a, p.len)
 }

@@ -1,8 +1,10 @@
-// The rows of the tables, each written from a place on. Each function gives the place after its row.
+// The rows of the tables, each written from a place on. Each function gives the place after what it wrote. A row of many fields is
+// written by several functions, a few fields each, so that each proof stays small.
 ghost use mathlib.Core.Path.{_≡_};
 ghost use mathlib.Core.List.{_++_};
 ghost use Prim.Native.Nat.{_+_, _≤_};
 ghost use lib.ListN.{length};
+ghost use Rattle.rules.specs.Scope.{modeNumber};
 ghost use Rattle.journal.specs.Numbers.{bytesOf};
 ghost use Rattle.desk_bytes.specs.Layout.{hashLength, textLength, capLength, textBytesAll, capBytes, statusNumber, scopeBytes, scopeLength, volumeBytes, volumeLength, entryBytes, entryLength, tokenBytes, tokenLength, relayBytes, relayLength, putBytes, putLength, sessionBytes, sessionLength};
 ghost use Rattle.desk_bytes.specs.Written.{Wrote};
@@ -10,14 +12,20 @@ use super::parts::put_account;
 use super::parts::put_cap;
 use super::parts::put_hash;
 use super::parts::put_mode;
-use super::parts::put_number;
 use super::parts::put_placement;
 use super::parts::put_status;
 use super::parts::put_text;
+use super::parts::put_three;
+use super::parts::put_u8;
+use super::parts::put_u32;
+use super::parts::put_u64;
+use super::parts::put_usize;
 use super::tables::put_puts;
 use amount::Cap;
 use rules::Account;
 use rules::Entry;
+use rules::Hash;
+use rules::Mode;
 use rules::Put;
 use rules::Relay;
 use rules::Scope;
@@ -27,26 +35,46 @@ use rules::Token;
 use rules::Volume;
 use text::Text;
 
-fn put_named(out: &mut [u8], at: usize, no: u32, owner: Account, name: Text) -> usize
+// A volume: its number, owner and name.
+fn put_before_k(out: &mut [u8], at: usize, no: u32, owner: Account, name: Text) -> usize
     requires { ⌜ at + (4 + hashLength + textLength) ≤ length (now out) ⌝ }
     ensures { λ r. ⌜ (r ≡ at + (4 + hashLength + textLength)) × Wrote at (bytesOf 4 no ++ owner .0 ++ textBytesAll name) (now (out .entry)) r (now (out .exit)) ⌝ }
 {
-    let a = put_number(out, at, 4, no as u64);
+    let a = put_u32(out, at, no);
     let b = put_account(out, a, owner);
     put_text(out, b, name)
 }
 
-fn put_terms(out: &mut [u8], at: usize, k: u8, m: u8, cap: Cap, status: Status) -> usize
+// K and M.
+fn put_k_and_m(out: &mut [u8], at: usize, k: u8, m: u8) -> usize
+    requires { ⌜ at + (1 + 1) ≤ length (now out) ⌝ }
+    ensures { λ r. ⌜ (r ≡ at + (1 + 1)) × Wrote at (bytesOf 1 k ++ bytesOf 1 m) (now (out .entry)) r (now (out .exit)) ⌝ }
+{
+    let a = put_u8(out, at, k);
+    put_u8(out, a, m)
+}
+
+// A volume: K, M, the cap and the status.
+fn put_from_k(out: &mut [u8], at: usize, k: u8, m: u8, cap: Cap, status: Status) -> usize
     requires { ⌜ at + (1 + 1 + capLength + 1) ≤ length (now out) ⌝ }
     ensures { λ r. ⌜ (r ≡ at + (1 + 1 + capLength + 1)) × Wrote at (bytesOf 1 k ++ bytesOf 1 m ++ capBytes cap ++ bytesOf 1 (statusNumber status)) (now (out .entry)) r (now (out .exit)) ⌝ }
 {
-    let a = put_number(out, at, 1, k as u64);
-    let b = put_number(out, a, 1, m as u64);
-    let c = put_cap(out, b, cap);
-    put_status(out, c, status)
+    let a = put_k_and_m(out, at, k, m);
+    let b = put_cap(out, a, cap);
+    put_status(out, b, status)
 }
 
-fn put_state(
+// Balance and version.
+fn put_balance(out: &mut [u8], at: usize, balance: u64, version: u32) -> usize
+    requires { ⌜ at + (8 + 4) ≤ length (now out) ⌝ }
+    ensures { λ r. ⌜ (r ≡ at + (8 + 4)) × Wrote at (bytesOf 8 balance ++ bytesOf 4 version) (now (out .entry)) r (now (out .exit)) ⌝ }
+{
+    let a = put_u64(out, at, balance);
+    put_u32(out, a, version)
+}
+
+// A volume: the balance and all after it.
+fn put_from_balance(
     out: &mut [u8],
     at: usize,
     balance: u64,
@@ -57,10 +85,28 @@ fn put_state(
     requires { ⌜ at + (8 + 4 + 1 + 8) ≤ length (now out) ⌝ }
     ensures { λ r. ⌜ (r ≡ at + (8 + 4 + 1 + 8)) × Wrote at (bytesOf 8 balance ++ bytesOf 4 version ++ bytesOf 1 grace ++ bytesOf 8 deleted) (now (out .entry)) r (now (out .exit)) ⌝ }
 {
-    let a = put_number(out, at, 8, balance);
-    let b = put_number(out, a, 4, version as u64);
-    let c = put_number(out, b, 1, grace as u64);
-    put_number(out, c, 8, deleted)
+    let a = put_balance(out, at, balance, version);
+    let b = put_u8(out, a, grace);
+    put_u64(out, b, deleted)
+}
+
+// A volume: all before the balance.
+fn put_before_balance(
+    out: &mut [u8],
+    at: usize,
+    no: u32,
+    owner: Account,
+    name: Text,
+    k: u8,
+    m: u8,
+    cap: Cap,
+    status: Status,
+) -> usize
+    requires { ⌜ at + (4 + hashLength + textLength + (1 + 1 + capLength + 1)) ≤ length (now out) ⌝ }
+    ensures { λ r. ⌜ (r ≡ at + (4 + hashLength + textLength + (1 + 1 + capLength + 1))) × Wrote at ((bytesOf 4 no ++ owner .0 ++ textBytesAll name) ++ (bytesOf 1 k ++ bytesOf 1 m ++ capBytes cap ++ bytesOf 1 (statusNumber status))) (now (out .entry)) r (now (out .exit)) ⌝ }
+{
+    let a = put_before_k(out, at, no, owner, name);
+    put_from_k(out, a, k, m, cap, status)
 }
 
 pub(crate) fn put_volume(out: &mut [u8], at: usize, v: Volume) -> usize
@@ -71,9 +117,34 @@ pub(crate) fn put_volume(out: &mut [u8], at: usize, v: Volume) -> usize
     let name = v.name;
     let cap = v.cap;
     let status = v.status;
-    let a = put_named(out, at, v.no.0, owner, name);
-    let b = put_terms(out, a, v.k, v.m, cap, status);
-    put_state(out, b, v.balance, v.version, v.grace, v.deleted)
+    let a = put_before_balance(out, at, v.no.0, owner, name, v.k, v.m, cap, status);
+    put_from_balance(out, a, v.balance, v.version, v.grace, v.deleted)
+}
+
+// Volume and path.
+fn put_volume_and_path(out: &mut [u8], at: usize, volume: u32, path: Text) -> usize
+    requires { ⌜ at + (4 + textLength) ≤ length (now out) ⌝ }
+    ensures { λ r. ⌜ (r ≡ at + (4 + textLength)) × Wrote at (bytesOf 4 volume ++ textBytesAll path) (now (out .entry)) r (now (out .exit)) ⌝ }
+{
+    let a = put_u32(out, at, volume);
+    put_text(out, a, path)
+}
+
+// An entry: all before the placement.
+fn put_before_placement(
+    out: &mut [u8],
+    at: usize,
+    volume: u32,
+    path: Text,
+    size: u64,
+    hash: Hash,
+) -> usize
+    requires { ⌜ at + (4 + textLength + 8 + hashLength) ≤ length (now out) ⌝ }
+    ensures { λ r. ⌜ (r ≡ at + (4 + textLength + 8 + hashLength)) × Wrote at (bytesOf 4 volume ++ textBytesAll path ++ bytesOf 8 size ++ hash .0) (now (out .entry)) r (now (out .exit)) ⌝ }
+{
+    let a = put_volume_and_path(out, at, volume, path);
+    let b = put_u64(out, a, size);
+    put_hash(out, b, hash)
 }
 
 pub(crate) fn put_entry(out: &mut [u8], at: usize, e: Entry) -> usize
@@ -83,11 +154,18 @@ pub(crate) fn put_entry(out: &mut [u8], at: usize, e: Entry) -> usize
     let path = e.path;
     let hash = e.hash;
     let placement = e.placement;
-    let a = put_number(out, at, 4, e.volume.0 as u64);
-    let b = put_text(out, a, path);
-    let c = put_number(out, b, 8, e.size);
-    let d = put_hash(out, c, hash);
-    put_placement(out, d, placement)
+    let a = put_before_placement(out, at, e.volume.0, path, e.size, hash);
+    put_placement(out, a, placement)
+}
+
+// A scope: all before the window.
+fn put_before_window(out: &mut [u8], at: usize, prefix: Text, mode: Mode, cap: Cap) -> usize
+    requires { ⌜ at + (textLength + 1 + capLength) ≤ length (now out) ⌝ }
+    ensures { λ r. ⌜ (r ≡ at + (textLength + 1 + capLength)) × Wrote at (textBytesAll prefix ++ bytesOf 1 (modeNumber mode) ++ capBytes cap) (now (out .entry)) r (now (out .exit)) ⌝ }
+{
+    let a = put_text(out, at, prefix);
+    let b = put_mode(out, a, mode);
+    put_cap(out, b, cap)
 }
 
 fn put_scope(out: &mut [u8], at: usize, s: Scope) -> usize
@@ -97,11 +175,9 @@ fn put_scope(out: &mut [u8], at: usize, s: Scope) -> usize
     let prefix = s.prefix;
     let mode = s.mode;
     let cap = s.cap;
-    let a = put_text(out, at, prefix);
-    let b = put_mode(out, a, mode);
-    let c = put_cap(out, b, cap);
-    let d = put_number(out, c, 8, s.from);
-    put_number(out, d, 8, s.until)
+    let a = put_before_window(out, at, prefix, mode, cap);
+    let b = put_u64(out, a, s.from);
+    put_u64(out, b, s.until)
 }
 
 pub(crate) fn put_token(out: &mut [u8], at: usize, t: Token) -> usize
@@ -109,22 +185,28 @@ pub(crate) fn put_token(out: &mut [u8], at: usize, t: Token) -> usize
     ensures { λ r. ⌜ (r ≡ at + tokenLength) × Wrote at (tokenBytes t) (now (out .entry)) r (now (out .exit)) ⌝ }
 {
     let scope = t.scope;
-    let a = put_number(out, at, 4, t.no.0 as u64);
-    let b = put_number(out, a, 4, t.volume.0 as u64);
-    let c = put_number(out, b, 4, t.parent.0 as u64);
-    let d = put_scope(out, c, scope);
-    put_number(out, d, 8, t.used)
+    let a = put_three(out, at, t.no.0, t.volume.0, t.parent.0);
+    let b = put_scope(out, a, scope);
+    put_u64(out, b, t.used)
+}
+
+// A relay: all before the shards held.
+fn put_before_held(out: &mut [u8], at: usize, no: u32, capacity: u64, used: u64) -> usize
+    requires { ⌜ at + (4 + 8 + 8) ≤ length (now out) ⌝ }
+    ensures { λ r. ⌜ (r ≡ at + (4 + 8 + 8)) × Wrote at (bytesOf 4 no ++ bytesOf 8 capacity ++ bytesOf 8 used) (now (out .entry)) r (now (out .exit)) ⌝ }
+{
+    let a = put_u32(out, at, no);
+    let b = put_u64(out, a, capacity);
+    put_u64(out, b, used)
 }
 
 pub(crate) fn put_relay(out: &mut [u8], at: usize, r: Relay) -> usize
     requires { ⌜ at + relayLength ≤ length (now out) ⌝ }
     ensures { λ end. ⌜ (end ≡ at + relayLength) × Wrote at (relayBytes r) (now (out .entry)) end (now (out .exit)) ⌝ }
 {
-    let a = put_number(out, at, 4, r.no.0 as u64);
-    let b = put_number(out, a, 8, r.capacity);
-    let c = put_number(out, b, 8, r.used);
-    let d = put_number(out, c, 4, r.held as u64);
-    put_number(out, d, 8, r.beat)
+    let a = put_before_held(out, at, r.no.0, r.capacity, r.used);
+    let b = put_u32(out, a, r.held);
+    put_u64(out, b, r.beat)
 }
 
 pub(crate) fn put_put(out: &mut [u8], at: usize, p: Put) -> usize
@@ -134,7 +216,7 @@ pub(crate) fn put_put(out: &mut [u8], at: usize, p: Put) -> usize
     let path = p.path;
     let hash = p.hash;
     let a = put_text(out, at, path);
-    let b = put_number(out, a, 8, p.size);
+    let b = put_u64(out, a, p.size);
     put_hash(out, b, hash)
 }
 
@@ -143,9 +225,7 @@ pub(crate) fn put_session(out: &mut [u8], at: usize, s: Session) -> usize
     ensures { λ r. ⌜ (r ≡ at + sessionLength) × Wrote at (sessionBytes s) (now (out .entry)) r (now (out .exit)) ⌝ }
 {
     let puts = s.puts;
-    let a = put_number(out, at, 4, s.token.0 as u64);
-    let b = put_number(out, a, 4, s.volume.0 as u64);
-    let c = put_number(out, b, 4, s.version as u64);
-    let d = put_number(out, c, 8, s.count as u64);
-    put_puts(out, d, puts)
+    let a = put_three(out, at, s.token.0, s.volume.0, s.version);
+    let b = put_usize(out, a, s.count);
+    put_puts(out, b, puts)
 }

@@ -6,7 +6,7 @@ ghost use lib.ListN.{length};
 ghost use Rattle.rules.specs.Limits.{volumeRows, entryRows, tokenRows, relayRows, slotRows, putRows, shardPlaces};
 ghost use Rattle.desk_bytes.specs.Layout.{volumeBytes, volumeLength, entryBytes, entryLength, tokenBytes, tokenLength, relayBytes, relayLength, putBytes, putLength, sessionBytes, sessionLength, relayNoBytes};
 ghost use Rattle.desk_bytes.specs.Written.{Wrote};
-use super::parts::put_number;
+use super::parts::put_u32;
 use super::rows::put_entry;
 use super::rows::put_put;
 use super::rows::put_relay;
@@ -113,7 +113,7 @@ pub(crate) fn put_relay_numbers(out: &mut [u8], start: usize, rows: [RelayNo; 24
     let mut i: usize = 0;
     while i < 24 {
         let row = rows[i];
-        at = put_number(out, at, 4, row.0 as u64);
+        at = put_u32(out, at, row.0);
         i += 1;
     }
     at
