@@ -9,11 +9,15 @@ ghost use Rattle.text.specs.Text.{isPath, isPrefix, isName};
 ghost use Rattle.rules.specs.Sound.{sound};
 ghost use Rattle.transcripts.specs.Replay.{answerOf, bufferOf, replayedOf};
 ghost use Rattle.transcripts.specs.Room.{roomFor};
+ghost use Rattle.desk_bytes.specs.Layout.{deskLength};
+ghost use Rattle.library.specs.DeskAfter.{deskNumber, transcriptLeft, deskLeft, lengthLeft, deskWhere};
 ghost use Rattle.library.specs.Results.{capOf, limitedAfter, bytesAfter, lengthAfter, writtenAfter, testsPassed};
 use amount::Cap;
 use amount::ReadAmount;
 use amount::Written;
+use journal::Written as Replay;
 use rules::Desk;
+use rules::numbers::ROOM;
 use soundness::is_sound;
 
 // Whether a text is a path of 01.
@@ -112,6 +116,56 @@ pub extern "C" fn pailorchard_replay(journal: &[u8], out: &mut [u8], written: &m
     ensures { λ _. ⌜ now (written .exit) ≡ writtenAfter (answerOf (now (journal .entry)) (now (out .entry)) .number) (answerOf (now (journal .entry)) (now (out .entry)) .len) (now (written .entry)) ⌝ }
 {
     let r = transcripts::replay_into(journal, out);
+    let number = r.number;
+    if number == 0 {
+        *written = r.len;
+    }
+    number
+}
+
+// How many bytes the desk has.
+#[no_mangle]
+pub extern "C" fn pailorchard_desk_room() -> usize
+    ensures { λ r. ⌜ r ≡ deskLength ⌝ }
+{
+    desk_bytes::desk_room()
+}
+
+// Replays a journal, and writes the desk after it where there is a transcript.
+fn replay_with_desk(journal: &[u8], transcript: &mut [u8], desk: &mut [u8]) -> Replay
+    ensures { λ r. ⌜ r ≡ answerOf (now (journal .entry)) (now (transcript .entry)) ⌝ }
+    ensures { λ _. ⌜ now (transcript .exit) ≡ bufferOf (now (journal .entry)) (now (transcript .entry)) ⌝ }
+    ensures { λ _. ⌜ now (desk .exit) ≡ deskWhere (answerOf (now (journal .entry)) (now (transcript .entry)) .number) (now (journal .entry)) (now (desk .entry)) ⌝ }
+{
+    let r = transcripts::replay(journal, transcript);
+    let number = r.number;
+    let len = r.len;
+    if number != 0 {
+        return Replay { number, len };
+    }
+    let d = r.desk;
+    desk_bytes::write_desk(d, desk);
+    Replay { number, len }
+}
+
+// Replays a journal on a fresh desk: 0, with its transcript, the transcript's length, and the desk after the journal as bytes; or 12,
+// where one of the buffers is too short.
+#[no_mangle]
+pub extern "C" fn pailorchard_desk_after(
+    journal: &[u8],
+    transcript: &mut [u8],
+    desk: &mut [u8],
+    written: &mut usize,
+) -> u32
+    ensures { λ r. ⌜ r ≡ deskNumber (now (journal .entry)) (now (transcript .entry)) (now (desk .entry)) ⌝ }
+    ensures { λ _. ⌜ now (transcript .exit) ≡ transcriptLeft (now (journal .entry)) (now (transcript .entry)) (now (desk .entry)) ⌝ }
+    ensures { λ _. ⌜ now (desk .exit) ≡ deskLeft (now (journal .entry)) (now (transcript .entry)) (now (desk .entry)) ⌝ }
+    ensures { λ _. ⌜ now (written .exit) ≡ lengthLeft (now (journal .entry)) (now (transcript .entry)) (now (desk .entry)) (now (written .entry)) ⌝ }
+{
+    if desk.len() < desk_bytes::desk_room() {
+        return ROOM;
+    }
+    let r = replay_with_desk(journal, transcript, desk);
     let number = r.number;
     if number == 0 {
         *written = r.len;
