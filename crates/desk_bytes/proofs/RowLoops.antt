@@ -45,7 +45,7 @@ module _ {A : Type 0} (f : A → List ℕ) (w : ℕ) (rows : List A) (n start : 
       }
 
   module _ (i at : ℕ) (out : List ℕ) (h : RowsLoop f w rows n start out₀ i at out) where
-    -- room for one row more, of k bytes
+    -- room for one row more
     pub row-room : i < n → at + w ≤ length out
     row-room k =
         let e : (i + 1) * w ≤ n * w = mul-le-mul-right w (omega arith) in

@@ -1,5 +1,5 @@
 -- The desk as bytes: every field of every row and slot, in the order of the structs, whatever the row holds. "All numbers big-endian, each in as
--- many bytes as its type has: u8 1, u16 2, u32 4, u64 and usize 8." Assumes nothing.
+-- many bytes as its type has: u8 1, u16 2, u32 4, u64 and usize 8." After the bytes of each part stands how many they are. Assumes nothing.
 use mathlib.Core.List.{List, _++_, flatMap}
 use Prim.Native.Nat.{ℕ, _+_, _*_}
 use Rattle.amount.specs.declared.Cap.{Cap}
@@ -77,7 +77,7 @@ entryBytes e =
 abbrev pub entryLength : ℕ
 entryLength = 4 + textLength + 8 + hashLength + placementLength
 
--- "token row: no 4, volume 4, parent 4, prefix 136, mode 1, cap 9, from 8, until 8, used 8. 182." "mode: one byte, 0 read, 1 write, 2 both."
+-- "prefix 136, mode 1, cap 9, from 8, until 8"; "mode: one byte, 0 read, 1 write, 2 both."
 unfoldable pub scopeBytes : Scope → List ℕ
 scopeBytes s =
     textBytesAll (s .prefix) ++ bytesOf 1 (modeNumber (s .mode)) ++ capBytes (s .cap) ++ bytesOf 8 (s .«from») ++ bytesOf 8 (s .until)
@@ -85,6 +85,7 @@ scopeBytes s =
 abbrev pub scopeLength : ℕ
 scopeLength = textLength + 1 + capLength + 8 + 8
 
+-- "token row: no 4, volume 4, parent 4, prefix 136, mode 1, cap 9, from 8, until 8, used 8. 182."
 unfoldable pub tokenBytes : Token → List ℕ
 tokenBytes t =
     bytesOf 4 (t .no .0) ++ bytesOf 4 (t .volume .0) ++ bytesOf 4 (t .parent .0) ++ scopeBytes (t .scope) ++ bytesOf 8 (t .used)
@@ -115,7 +116,7 @@ abbrev pub sessionLength : ℕ
 sessionLength = 4 + 4 + 4 + 8 + putRows * putLength
 
 -- "desk: clock 8, rate 2, 8 volumes (1,640), 64 entries (18,176), 32 tokens (5,824), 32 relays (1,024), last_volume 4, last_token 4,
--- last_relay 4, deposits 8",
+-- last_relay 4, deposits 8"
 unfoldable pub tablesBytes : Tables → List ℕ
 tablesBytes t =
     (bytesOf 8 (t .clock) ++ bytesOf 2 (t .rate) ++ flatMap volumeBytes (t .volumes) ++ flatMap entryBytes (t .entries))

@@ -61,6 +61,10 @@ session-total = refl
 pub desk-total : deskLength ≡ 32406
 desk-total = refl
 
+-- its 136 texts, and all else
+pub desk-texts : deskLength ≡ 136 * pathLimit + 14998
+desk-texts = refl
+
 -- ---- every array has as many elements as its type says
 
 abbrev pub isSized : {A : Type 0} → List A → ℕ → Bool
