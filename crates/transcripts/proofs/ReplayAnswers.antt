@@ -13,16 +13,21 @@ use lib.Dec.{ltb}
 use lib.Pow.{areBytes}
 use lib.ListN.{length, take, drop, getD, length-drop}
 use lib.Seq.{take-all}
+use Rattle.rules.specs.declared.Desk.{Desk}
 use Rattle.rules.specs.Fresh.{freshDesk}
+use Rattle.rules.specs.Calls.{run}
+use Rattle.journal.specs.declared.Written.{Written}
 use Rattle.journal.specs.FieldLaws.{bytes-drop}
+use Rattle.journal.specs.Records.{v01}
 use Rattle.journal.specs.Journal.{journalMost, TOO-LARGE, stop, stopped, records, contents, versionFault, startFault, afterStart}
 use Rattle.journal.specs.Theorems.{start-gives-the-contents}
+use Rattle.transcripts.specs.declared.Replayed.{Replayed}
 use Rattle.transcripts.specs.Transcript.{firstLine, lastLine, programRate, transcript}
 use Rattle.transcripts.specs.TranscriptLaws.{printedFrom, from-start, from-stop}
 use Rattle.transcripts.specs.Room.{roomFor}
 use Rattle.transcripts.specs.RoomLaws.{transcript-fits}
 use Rattle.transcripts.specs.Written.{Wrote}
-use Rattle.transcripts.specs.Replay.{answerOf, bufferOf}
+use Rattle.transcripts.specs.Replay.{tooShort, answerOf, bufferOf, deskAfter, replayedOf, Replays}
 use Rattle.transcripts.proofs.OverLaws.{room-next, wrote-next}
 use Rattle.transcripts.proofs.ReplayLaws.{wholeOf}
 
@@ -76,10 +81,17 @@ all-records l = take-all (length l - 1) (drop 1 l) (omega (arith, length-drop 1 
 abbrev restOf : List ℕ → List ℕ
 restOf l = printedFrom 0 (freshDesk programRate) (contents l)
 
+abbrev startDesk : Desk
+startDesk = freshDesk programRate
+
+pub none-made : (number len : ℕ) (d : Desk) → d ≡ startDesk
+    → _≡_ {A = Replayed} (record { number = number; len = len; desk = d }) (record { number = number; len = len; desk = startDesk })
+none-made number len d e = rw e
+
 module _ (l out₀ : List ℕ) (room : ℕ) (er : room ≡ roomFor (length l)) where
-  pub short-answer : length out₀ < room → record { number = 12; len = 0 } ≡ answerOf l out₀
-  unfolding answerOf
-  short-answer h = rw (← er, lt-ltb (length out₀) room h)
+  pub short-answer : (r : Replayed) → length out₀ < room → r ≡ record { number = 12; len = 0; desk = startDesk } → r ≡ replayedOf l out₀
+  unfolding replayedOf
+  short-answer r h e = rw (← er, lt-ltb (length out₀) room h) e
 
   pub short-buffer : length out₀ < room → out₀ ≡ bufferOf l out₀
   unfolding bufferOf
@@ -91,8 +103,8 @@ module _ (l out₀ : List ℕ) (room : ℕ) (er : room ≡ roomFor (length l)) w
 
     -- the whole transcript stands at the front
     module _ (len : ℕ) (out : List ℕ) (w : Wrote 0 (transcript l) out₀ len out) where
-      done-answer : record { number = 0; len = len } ≡ answerOf l out₀
-      unfolding answerOf
+      done-answer : record { number = 0; len = len; desk = deskAfter l } ≡ replayedOf l out₀
+      unfolding replayedOf
       done-answer = let e : len ≡ length (transcript l) = w .place ∙ zero-add (length (transcript l)) in rw (← er, le-ltb (length out₀) room h, e)
 
       done-buffer : out ≡ bufferOf l out₀
@@ -117,23 +129,32 @@ module _ (l out₀ : List ℕ) (room : ℕ) (er : room ≡ roomFor (length l)) w
       -- f is the fault at the start
       module _ (f : ℕ) (ef : f ≡ startFault l) where
         module _ (n : f ≡ 0 → ⊥) where
+          none-held : contents l ≡ stopped f
+          none-held = start-gives-the-contents l ∙ rw (← ef) (faulty l f n)
+
           rest-stops : restOf l ≡ lastLine 0 (stop f)
-          rest-stops =
-              ap (printedFrom 0 (freshDesk programRate)) (start-gives-the-contents l ∙ rw (← ef) (faulty l f n)) ∙ from-stop 0 (freshDesk programRate) f
+          rest-stops = ap (printedFrom 0 startDesk) none-held ∙ from-stop 0 startDesk f
+
+          desk-kept : startDesk ≡ deskAfter l
+          unfolding deskAfter run
+          desk-kept = rw none-held
 
           pub fault-room : at + length (lastLine 0 (stop f)) ≤ length m
           fault-room = rw (← rest-stops) rest-room
 
           module _ (len : ℕ) (out : List ℕ) (v : Wrote at (lastLine 0 (stop f)) m len out) where
-            pub fault-answer : record { number = 0; len = len } ≡ answerOf l out₀
-            fault-answer = done-answer len out (rest-wrote len out (rw rest-stops v))
+            pub fault-answer : (r : Replayed) → r ≡ record { number = 0; len = len; desk = startDesk } → r ≡ replayedOf l out₀
+            fault-answer r e = e ∙ rw desk-kept (done-answer len out (rest-wrote len out (rw rest-stops v)))
 
             pub fault-buffer : out ≡ bufferOf l out₀
             fault-buffer = done-buffer len out (rest-wrote len out (rw rest-stops v))
 
         module _ (z : f ≡ 0) where
+          held : contents l ≡ records v01 (onRecords l)
+          held = start-gives-the-contents l ∙ rw (← ef, z, all-records l)
+
           rest-reads : restOf l ≡ wholeOf (onRecords l)
-          rest-reads = ap (printedFrom 0 (freshDesk programRate)) (start-gives-the-contents l ∙ rw (← ef, z, all-records l))
+          rest-reads = ap (printedFrom 0 startDesk) held
 
           pub records-bytes : areBytes (onRecords l) ≡ true
           records-bytes = rw (all-records l) (bytes-drop 1 l (bytes-known l b))
@@ -144,15 +165,31 @@ module _ (l out₀ : List ℕ) (room : ℕ) (er : room ≡ roomFor (length l)) w
           pub records-room : at + length (wholeOf (onRecords l)) ≤ length m
           records-room = rw (← rest-reads) rest-room
 
-          module _ (len : ℕ) (out : List ℕ) (v : Wrote at (wholeOf (onRecords l)) m len out) where
-            pub read-answer : record { number = 0; len = len } ≡ answerOf l out₀
-            read-answer = done-answer len out (rest-wrote len out (rw rest-reads v))
+          module _ (r : Replayed) (out : List ℕ) (v : Replays at (records v01 (onRecords l)) m r out) where
+            desk-left : r .desk ≡ deskAfter l
+            unfolding deskAfter
+            desk-left = v .desk ∙ rw held
+
+            pub read-answer : r ≡ replayedOf l out₀
+            read-answer = let e : r ≡ record { number = 0; len = r .len; desk = deskAfter l } = rw (v .number, desk-left) in
+                e ∙ done-answer (r .len) out (rest-wrote (r .len) out (rw rest-reads (v .wrote)))
 
             pub read-buffer : out ≡ bufferOf l out₀
-            read-buffer = done-buffer len out (rest-wrote len out (rw rest-reads v))
+            read-buffer = done-buffer (r .len) out (rest-wrote (r .len) out (rw rest-reads (v .wrote)))
 
 pub ruleset short = (short-answer, short-buffer)
 
 pub ruleset fault = (fault-room, fault-answer, fault-buffer)
 
 pub ruleset read = (records-bytes, records-few, records-room, read-answer, read-buffer)
+
+-- ---- the answer without the desk
+
+told-by : (short : Bool) (x y : Replayed) (p q : Written) → record { number = x .number; len = x .len } ≡ p → record { number = y .number; len = y .len } ≡ q
+    → record { number = cond short x y .number; len = cond short x y .len } ≡ cond short p q
+told-by true x y p q e f = e
+told-by false x y p q e f = f
+
+pub answer-told : (l out₀ : List ℕ) (r : Replayed) → r ≡ replayedOf l out₀ → record { number = r .number; len = r .len } ≡ answerOf l out₀
+unfolding replayedOf answerOf
+answer-told l out₀ r e = rw e (told-by (tooShort l out₀) _ _ _ _ refl refl)

@@ -1,9 +1,9 @@
 -- The loop of a replay: its invariant, and the laws of its start, its end and its step. What is still to be printed, over the buffer from where the
--- replay has come, gives the whole; the tables and the slots are those of a desk that calls reach, so that each call is answered by its rule.
--- Assumes nothing.
+-- replay has come, gives the whole; the calls that are left lead from the tables and the slots to the desk after all of them. This desk is one that
+-- calls reach, so that each call is answered by its rule. Assumes nothing.
 use mathlib.Core.Path.{_≡_, refl, sym, _∙_, ap}
 use mathlib.Core.Bool.{true}
-use mathlib.Core.List.{List, _++_}
+use mathlib.Core.List.{List, [], _++_}
 use mathlib.Core.Option.{some}
 use Prim.Native.Nat.{ℕ, _+_, _-_, _<_, _≤_}
 use native.Mathlib.Omega.{arith}
@@ -14,26 +14,29 @@ use lib.ListN.{length, drop, replicate, length-append}
 use Rattle.rules.specs.declared.Answer.{Answer}
 use Rattle.rules.specs.declared.Session.{Session}
 use Rattle.rules.specs.declared.Tables.{Tables}
+use Rattle.rules.specs.declared.Outcome.{Outcome}
 use Rattle.rules.specs.Fresh.{freshSession, freshTables, freshDesk}
-use Rattle.rules.specs.Calls.{Call, rule, step}
+use Rattle.rules.specs.Calls.{Call, rule, step, run}
 use Rattle.rules.specs.Laws.StaysSound.{DeskInvariant}
 use Rattle.rules.specs.Laws.Reached.{call-keeps}
 use Rattle.rules.specs.Laws.FreshSound.{fresh-holds}
 use Rattle.journal.specs.declared.Record.{Record}
 use Rattle.journal.specs.Records.{v01}
-use Rattle.journal.specs.Journal.{end, stop, records}
+use Rattle.journal.specs.Journal.{Ending, end, stop, Contents, stopped, ended, records}
 use Rattle.journal.specs.Writes.{over}
 use Rattle.transcripts.specs.declared.Group.{Group}
 use Rattle.transcripts.specs.declared.Group.the-variants as group
 use Rattle.transcripts.specs.declared.Item.{Item}
+use Rattle.transcripts.specs.declared.Replayed.{Replayed}
 use Rattle.transcripts.specs.Transcript.{recordLine, lastLine, programRate}
-use Rattle.transcripts.specs.TranscriptLaws.{printedFrom}
+use Rattle.transcripts.specs.TranscriptLaws.{printedFrom, from-call, from-last}
 use Rattle.transcripts.specs.RoomLaws.{answered}
 use Rattle.transcripts.specs.Written.{Wrote}
 use Rattle.transcripts.specs.Groups.{isRecord, callIn, StandsAt, BodyAt}
 use Rattle.transcripts.specs.ItemLaws.{Within, Standing, item-within, item-more, item-end, item-stop, item-call}
 use Rattle.transcripts.specs.Parts.{deskOf}
 use Rattle.lists.specs.OverLaws.{length-over, over-over}
+use Rattle.transcripts.specs.Replay.{Replays}
 
 -- what is printed for the records l, and for those from p on, where n records left the tables t and the slots
 abbrev pub wholeOf : List ℕ → List ℕ
@@ -52,6 +55,7 @@ pub record ReplayLoop (l out₀ : List ℕ) (start : ℕ) (t : Tables) (slots : 
   pub room : start + length (wholeOf l) ≤ length out₀
   pub ends : at + length (leftOf l t slots n p) ≡ start + length (wholeOf l)
   pub left : over at (leftOf l t slots n p) out ≡ over start (wholeOf l) out₀
+  pub desk : run (records v01 (drop p l) .calls) (deskOf t slots) ≡ run (records v01 l .calls) (freshDesk programRate)
 
 -- what carrying out a record of the group gives: the answer of its call's rule, and with it the desk
 pub record Answered (g : Group) (r : Record) (body : List ℕ) (t : Tables) (slots : List Session) (a : Answer) : Type 0 where
@@ -80,19 +84,31 @@ module _ (l out₀ : List ℕ) (start : ℕ) where
         room = k;
         ends = refl;
         left = refl;
+        desk = refl;
       })
 
   module _ (t : Tables) (slots : List Session) (n p at : ℕ) (out : List ℕ) (h : ReplayLoop l out₀ start t slots n p at out) where
     pub count-fits : Fits w64 (n + 1)
     count-fits = record { fits = omega (arith, h .count, h .place, h .short) }
 
-    -- the last line, where it is all that is left
-    module _ (line : List ℕ) (e : leftOf l t slots n p ≡ line) where
-      last-room : at + length line ≤ length out
-      last-room = rw (← e) (omega (arith, h .ends, h .room, h .size))
+    -- the last line, where no record is left
+    module _ (e : Ending) (f : records v01 (drop p l) ≡ record { calls = []; ending = e }) where
+      at-last : leftOf l t slots n p ≡ lastLine n e
+      at-last = ap (printedFrom n (deskOf t slots)) f ∙ from-last n (deskOf t slots) e
 
-      last-wrote : (r : ℕ) (out′ : List ℕ) → Wrote at line out r out′ → Wrote start (wholeOf l) out₀ r out′
-      last-wrote r out′ f = record { place = f .place ∙ rw (← e) (h .ends); buffer = f .buffer ∙ rw (← e) (h .left) }
+      last-room : at + length (lastLine n e) ≤ length out
+      last-room = rw (← at-last) (omega (arith, h .ends, h .room, h .size))
+
+      last-replays : (len : ℕ) (out′ : List ℕ) (r : Replayed) → Wrote at (lastLine n e) out len out′ → r ≡ record { number = 0; len = len; desk = deskOf t slots }
+          → Replays start (records v01 l) out₀ r out′
+      unfolding run
+      last-replays len out′ r w er =
+          rw er
+          (record {
+            number = refl;
+            wrote = record { place = w .place ∙ rw (← at-last) (h .ends); buffer = w .buffer ∙ rw (← at-last) (h .left) };
+            desk = rw f at (h .desk);
+          })
 
     -- x is what stands at p
     module _ (x : Item) (e : StandsAt l p x) where
@@ -113,29 +129,38 @@ module _ (l out₀ : List ℕ) (start : ℕ) where
       fewer-left w = omega (arith, more w, item-most)
 
       module _ (w : x .group ≡ group.End) where
-        at-end : leftOf l t slots n p ≡ lastLine n end
-        at-end = item-end l (h .bytes) p n (deskOf t slots) x (e .same) w
+        at-end : records v01 (drop p l) ≡ ended
+        at-end = item-end l (h .bytes) p x (e .same) w
 
         pub end-room : at + length (lastLine n end) ≤ length out
-        end-room = last-room (lastLine n end) at-end
+        end-room = last-room end at-end
 
-        pub end-wrote : (r : ℕ) (out′ : List ℕ) → Wrote at (lastLine n end) out r out′ → Wrote start (wholeOf l) out₀ r out′
-        end-wrote = last-wrote (lastLine n end) at-end
+        pub end-replays : (len : ℕ) (out′ : List ℕ) (r : Replayed) → Wrote at (lastLine n end) out len out′
+            → r ≡ record { number = 0; len = len; desk = deskOf t slots } → Replays start (records v01 l) out₀ r out′
+        end-replays = last-replays end at-end
 
       module _ (number : ℕ) (w : x .group ≡ group.Stop number) where
-        at-stop : leftOf l t slots n p ≡ lastLine n (stop number)
-        at-stop = item-stop l (h .bytes) p n (deskOf t slots) x (e .same) number w
+        at-stop : records v01 (drop p l) ≡ stopped number
+        at-stop = item-stop l (h .bytes) p x (e .same) number w
 
         pub stop-room : at + length (lastLine n (stop number)) ≤ length out
-        stop-room = last-room (lastLine n (stop number)) at-stop
+        stop-room = last-room (stop number) at-stop
 
-        pub stop-wrote : (r : ℕ) (out′ : List ℕ) → Wrote at (lastLine n (stop number)) out r out′ → Wrote start (wholeOf l) out₀ r out′
-        stop-wrote = last-wrote (lastLine n (stop number)) at-stop
+        pub stop-replays : (len : ℕ) (out′ : List ℕ) (r : Replayed) → Wrote at (lastLine n (stop number)) out len out′
+            → r ≡ record { number = 0; len = len; desk = deskOf t slots } → Replays start (records v01 l) out₀ r out′
+        stop-replays = last-replays (stop number) at-stop
 
       -- the record of a call, whose bytes are b
       module _ (b : List ℕ) (eb : BodyAt l p (x .after) b) where
-        stands : (c : Call) → callIn (x .group) (x .fields) b ≡ some c → Standing l p (x .after) n (deskOf t slots) c
-        stands c w = item-call l (h .bytes) p n (deskOf t slots) x (e .same) c (rw (eb .same) at w)
+        stands : (c : Call) → callIn (x .group) (x .fields) b ≡ some c → Standing l p (x .after) c
+        stands c w = item-call l (h .bytes) p x (e .same) c (rw (eb .same) at w)
+
+        abbrev rest : Contents
+        rest = records v01 (drop (x .after) l)
+
+        printed : (c : Call) → callIn (x .group) (x .fields) b ≡ some c
+            → leftOf l t slots n p ≡ recordLine (n + 1) (step c (deskOf t slots) .answer) ++ printedFrom (n + 1) (step c (deskOf t slots) .desk) rest
+        printed c w = ap (printedFrom n (deskOf t slots)) (stands c w .left) ∙ from-call n (deskOf t slots) c rest
 
         by-rule : (c : Call) → step c (deskOf t slots) ≡ rule c (deskOf t slots)
         by-rule c = answered c (deskOf t slots) (h .held)
@@ -146,14 +171,11 @@ module _ (l out₀ : List ℕ) (start : ℕ) where
           line-room =
               let said : step (c .call) (deskOf t slots) .answer ≡ a = rw (by-rule (c .call), c .same) in
               let d = step (c .call) (deskOf t slots) .desk in
-              let left-is = rw said at (stands (c .call) (c .named) .left) in
-              omega (arith, ap length left-is, length-append (recordLine (n + 1) a) (printedFrom (n + 1) d (records v01 (drop (x .after) l))), h .ends, h .room, h .size)
+              let left-is = rw said at (printed (c .call) (c .named)) in
+              omega (arith, ap length left-is, length-append (recordLine (n + 1) a) (printedFrom (n + 1) d rest), h .ends, h .room, h .size)
 
         -- carried out: the rest of what is left is printed from the desk after it
         module _ (a : Answer) (t′ : Tables) (slots′ : List Session) (c : Carried (x .group) (x .fields) b t slots a t′ slots′) where
-          abbrev there : Standing l p (x .after) n (deskOf t slots) (c .call)
-          there = stands (c .call) (c .named)
-
           stepped : step (c .call) (deskOf t slots) ≡ record { answer = a; desk = deskOf t′ slots′ }
           stepped = by-rule (c .call) ∙ sym (c .same)
 
@@ -164,7 +186,14 @@ module _ (l out₀ : List ℕ) (start : ℕ) where
           later = leftOf l t′ slots′ (n + 1) (x .after)
 
           left-is : leftOf l t slots n p ≡ line ++ later
-          left-is = rw stepped at (there .left)
+          left-is = rw stepped at (printed (c .call) (c .named))
+
+          desk-is : run (rest .calls) (deskOf t′ slots′) ≡ run (records v01 l .calls) (freshDesk programRate)
+          unfolding run
+          desk-is =
+              ap (λ (o : Outcome). run (rest .calls) (o .desk)) (sym stepped)
+              ∙ sym (ap (λ (k : Contents). run (k .calls) (deskOf t slots)) (stands (c .call) (c .named) .left))
+              ∙ h .desk
 
           both : length (leftOf l t slots n p) ≡ length line + length later
           both = ap length left-is ∙ length-append line later
@@ -186,10 +215,11 @@ module _ (l out₀ : List ℕ) (start : ℕ) where
                 left =
                     rw (f .place, f .buffer)
                     (over-over at line later out within ∙ ap (λ (m : List ℕ). over at m out) (sym left-is) ∙ h .left);
+                desk = desk-is;
               }
 
-pub ruleset ends = (end-room, end-wrote)
+pub ruleset ends = (end-room, end-replays)
 
-pub ruleset stops = (stop-room, stop-wrote)
+pub ruleset stops = (stop-room, stop-replays)
 
 pub ruleset places = (item-least, item-most)

@@ -1,14 +1,12 @@
 -- What stands next in the records of a journal, as the code is told it: the end, a fault, or a whole record with so many bytes. Assumes nothing.
 use mathlib.Core.Path.{_≡_, refl, _∙_, ap}
 use mathlib.Core.Bool.{true}
-use mathlib.Core.List.{List, [], _∷_, _++_}
+use mathlib.Core.List.{List, [], _∷_}
 use Prim.Native.Nat.{ℕ, _+_, _-_, _≤_}
 use native.Mathlib.Omega.{arith}
 use lib.Pow.{areBytes}
 use lib.ListN.{length, take, drop}
 use lib.Seq.{drop-drop}
-use Rattle.rules.specs.declared.Desk.{Desk}
-use Rattle.rules.specs.Calls.{step}
 use Rattle.journal.specs.declared.Record.{Record}
 use Rattle.journal.specs.declared.Reading.{Reading}
 use Rattle.journal.specs.declared.Reading.the-variants.{Fits, Refused}
@@ -18,10 +16,8 @@ use Rattle.journal.specs.Fields.{Decoded, nothing, found}
 use Rattle.journal.specs.FieldLaws.{bytes-drop}
 use Rattle.journal.specs.Records.{v01, parse}
 use Rattle.journal.specs.Places.{readAt, callAt}
-use Rattle.journal.specs.Journal.{end, stop, after, framed, records, onReading, onBody, nextIn, afterNext}
+use Rattle.journal.specs.Journal.{stopped, ended, after, framed, records, onReading, onBody, nextIn, afterNext}
 use Rattle.journal.specs.Theorems.{next-gives-the-contents}
-use Rattle.transcripts.specs.Transcript.{recordLine, lastLine}
-use Rattle.transcripts.specs.TranscriptLaws.{printedFrom, from-call, from-stop, from-end}
 use Rattle.transcripts.specs.RoomLaws.{apart}
 
 -- a whole record has 3 bytes or more with its length, and they are there
@@ -59,19 +55,16 @@ bodyAt p after l = take (after - (p + 2)) (drop (p + 2) l)
 pub record-sized : (l : List ℕ) → areBytes l ≡ true → (p : ℕ) (r : Record) (k : ℕ) → nextIn v01 (drop p l) ≡ Whole r k → Sized (drop p l) k
 record-sized l h p r k e = whole-sized (drop p l) (bytes-drop p l h) r k e
 
--- what is still to be printed there, by what stands next
-module _ (l : List ℕ) (h : areBytes l ≡ true) (p n : ℕ) (d : Desk) where
-  abbrev left : List ℕ
-  left = printedFrom n d (records v01 (drop p l))
+-- what the journal holds from there on, by what stands next
+module _ (l : List ℕ) (h : areBytes l ≡ true) (p : ℕ) where
+  holds-next : (next : Next) → nextIn v01 (drop p l) ≡ next → records v01 (drop p l) ≡ afterNext v01 (drop p l) next
+  holds-next next e = next-gives-the-contents v01 (drop p l) (bytes-drop p l h) ∙ ap (afterNext v01 (drop p l)) e
 
-  holds-next : (next : Next) → nextIn v01 (drop p l) ≡ next → left ≡ printedFrom n d (afterNext v01 (drop p l) next)
-  holds-next next e = ap (printedFrom n d) (next-gives-the-contents v01 (drop p l) (bytes-drop p l h) ∙ ap (afterNext v01 (drop p l)) e)
+  pub left-at-end : nextIn v01 (drop p l) ≡ End → records v01 (drop p l) ≡ ended
+  left-at-end e = holds-next End e
 
-  pub left-at-end : nextIn v01 (drop p l) ≡ End → printedFrom n d (records v01 (drop p l)) ≡ lastLine n end
-  left-at-end e = holds-next End e ∙ from-end n d
-
-  pub left-at-stop : (number : ℕ) → nextIn v01 (drop p l) ≡ Stop number → printedFrom n d (records v01 (drop p l)) ≡ lastLine n (stop number)
-  left-at-stop number e = holds-next (Stop number) e ∙ from-stop n d number
+  pub left-at-stop : (number : ℕ) → nextIn v01 (drop p l) ≡ Stop number → records v01 (drop p l) ≡ stopped number
+  left-at-stop number e = holds-next (Stop number) e
 
   module _ (r : Record) (k : ℕ) (e : nextIn v01 (drop p l) ≡ Whole r k) where
     record-body : take (k - 2) (drop 2 (drop p l)) ≡ bodyAt p (p + k) l
@@ -79,7 +72,5 @@ module _ (l : List ℕ) (h : areBytes l ≡ true) (p n : ℕ) (d : Desk) where
         let s : k - 2 ≡ p + k - (p + 2) = omega (arith, record-sized l h p r k e .least) in
         rw (s, drop-drop 2 p l)
 
-    pub left-at-record : let c = callAt v01 r (bodyAt p (p + k) l) in
-        printedFrom n d (records v01 (drop p l)) ≡ recordLine (n + 1) (step c d .answer) ++ printedFrom (n + 1) (step c d .desk) (records v01 (drop (p + k) l))
-    left-at-record =
-        holds-next (Whole r k) e ∙ rw (record-body, drop-drop k p l) (from-call n d (callAt v01 r (bodyAt p (p + k) l)) (records v01 (drop (p + k) l)))
+    pub left-at-record : records v01 (drop p l) ≡ after (callAt v01 r (bodyAt p (p + k) l)) (records v01 (drop (p + k) l))
+    left-at-record = holds-next (Whole r k) e ∙ rw (record-body, drop-drop k p l)

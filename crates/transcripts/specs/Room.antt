@@ -1,4 +1,4 @@
--- How many bytes a lent buffer must have for the transcript of a journal of so many bytes. Assumes nothing.
+-- How many bytes of a lent buffer are always enough for the transcript of a journal of so many bytes. Assumes nothing.
 use Prim.Native.Nat.{ℕ, _+_, _*_, min}
 use Rattle.journal.specs.Journal.{journalMost}
 

@@ -8,7 +8,7 @@ use lib.ListN.{length}
 use Rattle.rules.specs.declared.Desk.{Desk}
 use Rattle.rules.specs.Fresh.{freshDesk}
 use Rattle.rules.specs.Calls.{Call, step, answers}
-use Rattle.journal.specs.Journal.{end, stop, Contents, stopped, ended, after}
+use Rattle.journal.specs.Journal.{Ending, end, stop, Contents, stopped, ended, after}
 use Rattle.transcripts.specs.Transcript.{firstLine, recordLine, recordLines, lastLine, programRate, printed}
 
 -- what is still to be printed: so many records were, they left the desk d, and the rest of the journal holds c
@@ -30,11 +30,13 @@ module _ (n : ℕ) (d : Desk) where
       (append-assoc (recordLine (n + 1) (step c d .answer)) (recordLines (n + 1 + 1) (answers (j .calls) (step c d .desk)))
       (lastLine (n + 1 + length (j .calls)) (j .ending)))
 
-  -- a fault, or the end
-  pub from-stop : (number : ℕ) → printedFrom n d (stopped number) ≡ lastLine n (stop number)
+  -- no record: a fault, or the end
+  pub from-last : (e : Ending) → printedFrom n d (record { calls = []; ending = e }) ≡ lastLine n e
   unfolding printedFrom recordLines answers
-  from-stop number = let e : n + length {A = Call} [] ≡ n = omega arith in rw e
+  from-last e = let z : n + length {A = Call} [] ≡ n = omega arith in rw z
+
+  pub from-stop : (number : ℕ) → printedFrom n d (stopped number) ≡ lastLine n (stop number)
+  from-stop number = from-last (stop number)
 
   pub from-end : printedFrom n d ended ≡ lastLine n end
-  unfolding printedFrom recordLines answers
-  from-end = let e : n + length {A = Call} [] ≡ n = omega arith in rw e
+  from-end = from-last end

@@ -1,15 +1,18 @@
 // What the program prints for a journal: specs/Transcript says it. items.rt takes the journal apart, carry.rt carries the
-// records out, lines.rt writes the lines, and replay.rt does it all record after record.
+// records out, lines.rt writes the lines, records.rt does it all record after record, and journals.rt for a whole journal.
 mod carry;
 mod items;
+mod journals;
 mod lines;
-mod replay;
+mod records;
 mod wide;
 
 use journal::Record;
-pub use replay::replay_into;
-pub use replay::room_for;
+pub use journals::replay;
+pub use journals::replay_into;
+pub use journals::room_for;
 use rules::Answer;
+use rules::Desk;
 use rules::Session;
 
 // The calls by the part of the desk that they change.
@@ -67,4 +70,11 @@ pub struct Item {
 pub struct SlotsOutcome {
     pub answer: Answer,
     pub sessions: [Session; 4],
+}
+
+// What a replay gives: 0 and the length of the transcript, or 12 and 0; and the desk after the calls of the journal.
+pub struct Replayed {
+    pub number: u32,
+    pub len: usize,
+    pub desk: Desk,
 }

@@ -1,0 +1,3 @@
+pub mod OverLaws
+pub mod RowLoops
+pub mod WritingLaws

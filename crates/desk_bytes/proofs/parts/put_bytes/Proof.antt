@@ -1,0 +1,25 @@
+-- `put_bytes` meets its contract: after i turns the first i bytes are copied. Assumes nothing.
+use Prim.Native.Nat.{_-_}
+use lib.ListN.{length}
+use borrow.Author.Needs.{needs}
+use Rattle.lists.specs.ByteLoopLaws.{FillLoop, fills}
+use Rattle.desk_bytes.proofs.OverLaws.{copied}
+use Rattle.desk_bytes.proofs.parts.put_bytes.Statement.{statement}
+use Rattle.desk_bytes.proofs.parts.put_bytes.Tie as tie
+
+pub put-bytes-spec : {M : Type 1} → statement M
+put-bytes-spec =
+    tie.close
+    (tie.spec
+    (λ out₀ at s i₀ out i. FillLoop out₀ at s (length s) i out)
+    (λ out₀ at s i₀ out i. length s - i)
+    (λ c. search fills)
+    (λ c. search fills)
+    (λ c. search fills)
+    (λ c. search fills)
+    (λ c. search fills)
+    (λ c. search fills)
+    (λ c. search fills)
+    (λ c. search fills)
+    (λ c. search fills)
+    (λ c. search (copied, needs)))

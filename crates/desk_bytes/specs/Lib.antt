@@ -1,0 +1,4 @@
+pub mod Layout
+pub mod Writing
+pub mod Written
+pub mod LayoutLaws

@@ -1,0 +1,16 @@
+-- `room_for` meets its contract: above 65,536 bytes, or not. Assumes nothing.
+use borrow.Author.Needs.{needs}
+use Rattle.transcripts.proofs.ReplayAnswers.{room-large, room-small}
+use Rattle.transcripts.proofs.journals.room_for.Statement.{statement}
+use Rattle.transcripts.proofs.journals.room_for.Tie as tie
+
+pub room-for-spec : {M : Type 1} → statement M
+room-for-spec =
+    tie.close
+    (tie.spec
+    (λ c. search needs)
+    (λ c. search needs)
+    (λ c. search room-large)
+    (λ c. search needs)
+    (λ c. search needs)
+    (λ c. search room-small))

@@ -1,0 +1,112 @@
+// The records of a journal carried out one after another from a fresh desk on, their lines written into a lent buffer.
+ghost use mathlib.Core.Path.{_≡_};
+ghost use mathlib.Core.Bool.{true};
+ghost use Prim.Native.Nat.{_+_, _<_, _≤_};
+ghost use lib.ListN.{length};
+ghost use lib.Pow.{areBytes};
+ghost use Rattle.rules.specs.Fresh.{freshDesk};
+ghost use Rattle.journal.specs.Records.{v01};
+ghost use Rattle.journal.specs.Journal.{records};
+ghost use Rattle.transcripts.specs.Parts.{deskOf};
+ghost use Rattle.transcripts.specs.Replay.{Replays};
+ghost use Rattle.transcripts.specs.Transcript.{programRate};
+ghost use Rattle.transcripts.specs.TranscriptLaws.{printedFrom};
+use super::Group;
+use super::Replayed;
+use super::carry::look_call;
+use super::carry::relay_call;
+use super::carry::slot_call;
+use super::carry::token_call;
+use super::carry::volume_call;
+use super::items::body_at;
+use super::items::item_at;
+use super::lines::put_end_line;
+use super::lines::put_record_line;
+use super::lines::put_stop_line;
+use super::wide::wide_call;
+use rules::Desk;
+use rules::Session;
+use rules::Tables;
+
+// The price of storage on the program's desk.
+pub(crate) const RATE: u16 = 100;
+
+// The transcript has so many bytes, and these are the tables and the slots after the calls.
+fn done(len: usize, t: Tables, slots: [Session; 4]) -> Replayed
+    ensures { λ r. ⌜ r ≡ record { number = 0; len = len; desk = deskOf t slots } ⌝ }
+{
+    let desk = Desk {
+        tables: t,
+        sessions: slots,
+    };
+    Replayed {
+        number: 0,
+        len,
+        desk,
+    }
+}
+
+// The records of a journal one after another, and the last line. Each call's part is stored in place, so that a heartbeat moves
+// the relay table and nothing else.
+pub(crate) fn replay_records(journal: &[u8], out: &mut [u8], start: usize) -> Replayed
+    requires { ⌜ (areBytes (now journal) ≡ true) × (length (now journal) < 65536) × (start + length (printedFrom 0 (freshDesk programRate) (records v01 (now journal))) ≤ length (now out)) ⌝ }
+    ensures { λ r. ⌜ Replays start (records v01 (now (journal .entry))) (now (out .entry)) r (now (out .exit)) ⌝ }
+{
+    let mut t = rules::fresh_tables(RATE);
+    let session = rules::fresh_session();
+    let mut slots = [session; 4];
+    let mut n: u64 = 0;
+    let mut p: usize = 0;
+    let mut at = start;
+    loop {
+        let item = item_at(journal, p);
+        let r = item.fields;
+        let group = item.group;
+        let body = body_at(journal, p, item.after);
+        let answer = match group {
+            Group::End => return done(put_end_line(out, at, n), t, slots),
+            Group::Stop(number) => return done(put_stop_line(out, at, n, number), t, slots),
+            Group::Relays(which) => {
+                let o = relay_call(t, which, r);
+                let relays = o.relays;
+                t.relays = relays;
+                t.last_relay = o.last;
+                o.answer
+            }
+            Group::Volumes(which) => {
+                let o = volume_call(t, which, r, body);
+                let volumes = o.volumes;
+                t.volumes = volumes;
+                t.last_volume = o.last;
+                t.deposits = o.deposits;
+                o.answer
+            }
+            Group::Tokens(which) => {
+                let o = token_call(t, which, r, body);
+                let tokens = o.tokens;
+                t.tokens = tokens;
+                t.last_token = o.last;
+                o.answer
+            }
+            Group::Slot(which) => {
+                let o = slot_call(t, slots, which, r, body);
+                let sessions = o.sessions;
+                slots = sessions;
+                o.answer
+            }
+            Group::Look => look_call(t, r, body),
+            Group::Wide(which) => {
+                let o = wide_call(t, slots, which, r, body);
+                let desk = o.desk;
+                let tables = desk.tables;
+                let sessions = desk.sessions;
+                t = tables;
+                slots = sessions;
+                o.answer
+            }
+        };
+        p = item.after;
+        n += 1;
+        at = put_record_line(out, at, n, answer);
+    }
+}
