@@ -1,27 +1,64 @@
--- What each arm of a replay leaves is what the call of its record leaves. g is the group that the arm names, x is what its function said of the
--- tables or the desk, and t′, slots′ and a are the tables, the slots and the answer after the arm. Assumes nothing.
-use mathlib.Core.Path.{_≡_, ap}
+-- What each arm of a replay leaves is what the call of its record leaves. r is the record, l its bytes and g its group, which the arm names; x is what
+-- the arm's function said of the tables, and t′, slots′ and a are the tables, the slots and the answer after the arm. Assumes nothing.
+use mathlib.Core.Path.{_≡_, refl, sym, _∙_, ap}
 use mathlib.Core.Bool.{true}
 use mathlib.Core.List.{List}
-use mathlib.Core.Option.{some}
-use Prim.Native.Nat.{ℕ}
+use Prim.Native.Nat.{ℕ, _<_}
+use borrow.Author.Tests.{lt-leb}
+use lib.ListN.{getD, set}
+use Rattle.lists.specs.TestLaws.{all-at}
 use Rattle.rules.specs.declared.Answer.{Answer}
 use Rattle.rules.specs.declared.Session.{Session}
 use Rattle.rules.specs.declared.Tables.{Tables}
+use Rattle.rules.specs.declared.Desk.{Desk}
 use Rattle.rules.specs.declared.TablesOutcome.{TablesOutcome}
+use Rattle.rules.specs.declared.SlotOutcome.{SlotOutcome}
 use Rattle.rules.specs.declared.Outcome.{Outcome}
-use Rattle.rules.specs.Calls.{Ask, askRule, Call, ask, onSlot, rule}
+use Rattle.rules.specs.Limits.{slotRows}
+use Rattle.rules.specs.Numbers.{BAD}
+use Rattle.rules.specs.Fresh.{freshSession}
+use Rattle.rules.specs.Outcome.{refusal, onTables}
+use Rattle.rules.specs.Sound.{soundTables, soundSession}
+use Rattle.rules.specs.Laws.SoundParts.{of-parts, tables-sound, slots-sound}
+use Rattle.rules.specs.Laws.StaysSound.{DeskInvariant}
+use Rattle.rules.specs.Calls.{Ask, askRule, Work, commits, workRule, Call, ask, onSlot, withSlot, rule}
+use Rattle.epochs.specs.Within.{advanceWithin}
+use Rattle.epochs.specs.WithinLaws.{advance-sound}
+use Rattle.commits.specs.Within.{commitWithin}
+use Rattle.commits.specs.WithinLaws.{commit-sound}
 use Rattle.journal.specs.declared.Record.{Record}
+use Rattle.journal.specs.Records.{v01}
+use Rattle.journal.specs.Places.{callAt}
 use Rattle.transcripts.specs.declared.RelayCall.{RelayCall}
 use Rattle.transcripts.specs.declared.VolumeCall.{VolumeCall}
 use Rattle.transcripts.specs.declared.TokenCall.{TokenCall}
 use Rattle.transcripts.specs.declared.SlotCall.{SlotCall}
-use Rattle.transcripts.specs.declared.WideCall.{WideCall}
 use Rattle.transcripts.specs.declared.Group.{Group}
 use Rattle.transcripts.specs.declared.Group.the-variants as group
-use Rattle.transcripts.specs.Groups.{relayAsk, volumeAsk, tokenAsk, lookAsk, slotWork, wideCall, isRecord, callIn}
-use Rattle.transcripts.specs.Parts.{deskOf, Asked, Ruled}
+use Rattle.transcripts.specs.declared.Item.{Item}
+use Rattle.transcripts.specs.Groups.{groupOf, relayAsk, volumeAsk, tokenAsk, lookAsk, deleteAsk, removeAsk, slotWork, callIn, isRecord, StandsAt}
+use Rattle.transcripts.specs.ItemLaws.{call-in-group, slot-there, no-slot-refused, item-named}
+use Rattle.transcripts.specs.Parts.{deskOf, Asked, Worked}
 use Rattle.transcripts.proofs.ReplayLaws.{Answered, Carried}
+
+-- ---- a desk that calls reach is sound, and there the work of an advance and of a commit is its rule
+
+tables-in : (d : Desk) → DeskInvariant d → soundTables (d .tables) ≡ true
+tables-in d i = of-parts (d .tables) (tables-sound d (i .passes))
+
+slot-in : (d : Desk) → DeskInvariant d → (j : ℕ) → j < slotRows → soundSession (d .tables) (getD (d .sessions) j freshSession) ≡ true
+slot-in d i j h = all-at (soundSession (d .tables)) (d .sessions) (slots-sound d (i .passes)) j (rw (i .slots) h) freshSession
+
+advance-is : (d : Desk) → DeskInvariant d → (block : ℕ) → advanceWithin block (d .tables) ≡ askRule (Ask.advance block) (d .tables)
+unfolding askRule
+advance-is d i block = advance-sound (d .tables) (i .shape .entry-rows) (tables-in d i) block
+
+commit-is : (d : Desk) → DeskInvariant d → (j : ℕ) → j < slotRows
+    → commitWithin (d .tables) (getD (d .sessions) j freshSession) ≡ workRule commits (d .tables) (getD (d .sessions) j freshSession)
+unfolding workRule
+commit-is d i j h = commit-sound (d .tables) (getD (d .sessions) j freshSession) (i .shape .entry-rows) (tables-in d i) (slot-in d i j h)
+
+-- ---- the arms
 
 -- the arm names a group of records
 module _ (g : Group) where
@@ -34,69 +71,149 @@ module _ (g : Group) where
   pub tokens-stand : (w : TokenCall) → g ≡ group.Tokens w → isRecord g ≡ true
   tokens-stand w e = rw e
 
-  pub slot-stand : (w : SlotCall) → g ≡ group.Slot w → isRecord g ≡ true
-  slot-stand w e = rw e
-
   pub look-stand : g ≡ group.Look → isRecord g ≡ true
   look-stand e = rw e
 
-  pub wide-stand : (w : WideCall) → g ≡ group.Wide w → isRecord g ≡ true
-  wide-stand w e = rw e
+  pub delete-stand : g ≡ group.Delete → isRecord g ≡ true
+  delete-stand e = rw e
 
--- and what it answers and leaves is what the call of its record does
-module _ (g : Group) (r : Record) (l : List ℕ) (t : Tables) (slots : List Session) (a : Answer) where
-  -- a call on the desk
-  by-call : isRecord g ≡ true → (x : Outcome) (c : Call) → callIn g r l ≡ some c → x ≡ rule c (deskOf t slots) → a ≡ x .answer → Carried g r l t slots a (x .desk .tables) (x .desk .sessions)
-  by-call i x c e f ea = record { stands = i; call = c; named = e; same = rw (ea, ← f) }
+  pub remove-stand : g ≡ group.Remove → isRecord g ≡ true
+  remove-stand e = rw e
 
-  -- one on the tables: the slots are as they were
-  by-ask : isRecord g ≡ true → (x : TablesOutcome) (q : Ask) → callIn g r l ≡ some (ask q) → x ≡ askRule q t → a ≡ x .answer → Carried g r l t slots a (x .tables) slots
-  unfolding rule
-  by-ask i x q e f ea = record { stands = i; call = ask q; named = e; same = rw (ea, ← f) }
+  pub slot-stand : (w : SlotCall) → g ≡ group.Slot w → isRecord g ≡ true
+  slot-stand w e = rw e
 
-  said : (t′ : Tables) (slots′ : List Session) → Carried g r l t slots a t′ slots′ → Answered g r l t slots a
-  said t′ slots′ c = record { call = c .call; named = c .named; same = ap (λ (o : Outcome). o .answer) (c .same) }
+  pub no-slot-stand : g ≡ group.NoSlot → isRecord g ≡ true
+  no-slot-stand e = rw e
 
-  module _ (x : TablesOutcome) where
-    pub relays-carried : (w : RelayCall) → Asked x (relayAsk w r) t → g ≡ group.Relays w → a ≡ x .answer → (t′ : Tables) (slots′ : List Session) → t′ ≡ x .tables → slots′ ≡ slots
-        → Carried g r l t slots a t′ slots′
-    relays-carried w f e ea t′ slots′ et es = rw (et, es) (by-ask (rw e) x (relayAsk w r) (rw e) (f .same) ea)
+  pub advance-stand : g ≡ group.Advance → isRecord g ≡ true
+  advance-stand e = rw e
 
-    pub relays-said : (w : RelayCall) → Asked x (relayAsk w r) t → g ≡ group.Relays w → a ≡ x .answer → Answered g r l t slots a
-    relays-said w f e ea = said (x .tables) slots (by-ask (rw e) x (relayAsk w r) (rw e) (f .same) ea)
+  pub commit-stand : g ≡ group.Commit → isRecord g ≡ true
+  commit-stand e = rw e
 
-    pub volumes-carried : (w : VolumeCall) → Asked x (volumeAsk w r l) t → g ≡ group.Volumes w → a ≡ x .answer → (t′ : Tables) (slots′ : List Session) → t′ ≡ x .tables → slots′ ≡ slots
-        → Carried g r l t slots a t′ slots′
-    volumes-carried w f e ea t′ slots′ et es = rw (et, es) (by-ask (rw e) x (volumeAsk w r l) (rw e) (f .same) ea)
+-- y stands at p of the journal
+module _ (j : List ℕ) (p : ℕ) (y : Item) (ey : StandsAt j p y) where
+  abbrev r : Record
+  r = y .fields
 
-    pub volumes-said : (w : VolumeCall) → Asked x (volumeAsk w r l) t → g ≡ group.Volumes w → a ≡ x .answer → Answered g r l t slots a
-    volumes-said w f e ea = said (x .tables) slots (by-ask (rw e) x (volumeAsk w r l) (rw e) (f .same) ea)
+  abbrev g : Group
+  g = y .group
 
-    pub tokens-carried : (w : TokenCall) → Asked x (tokenAsk w r l) t → g ≡ group.Tokens w → a ≡ x .answer → (t′ : Tables) (slots′ : List Session) → t′ ≡ x .tables → slots′ ≡ slots
-        → Carried g r l t slots a t′ slots′
-    tokens-carried w f e ea t′ slots′ et es = rw (et, es) (by-ask (rw e) x (tokenAsk w r l) (rw e) (f .same) ea)
+  named : isRecord g ≡ true → g ≡ groupOf (r .kind) (r .slot)
+  named w = item-named j p y (ey .same) w
 
-    pub tokens-said : (w : TokenCall) → Asked x (tokenAsk w r l) t → g ≡ group.Tokens w → a ≡ x .answer → Answered g r l t slots a
-    tokens-said w f e ea = said (x .tables) slots (by-ask (rw e) x (tokenAsk w r l) (rw e) (f .same) ea)
+  -- a slot that is there
+  pub slot-below : (w : SlotCall) → g ≡ group.Slot w → r .slot < 4
+  slot-below w e = slot-there (r .kind) (r .slot) (rw (← named (rw e), e))
 
-    pub look-carried : Asked x (lookAsk r l) t → g ≡ group.Look → a ≡ x .answer → (t′ : Tables) (slots′ : List Session) → t′ ≡ x .tables → slots′ ≡ slots
-        → Carried g r l t slots a t′ slots′
-    look-carried f e ea t′ slots′ et es = rw (et, es) (by-ask (rw e) x (lookAsk r l) (rw e) (f .same) ea)
+  pub commit-below : g ≡ group.Commit → r .slot < 4
+  commit-below e = slot-there (r .kind) (r .slot) (rw (← named (rw e), e))
 
-    pub look-said : Asked x (lookAsk r l) t → g ≡ group.Look → a ≡ x .answer → Answered g r l t slots a
-    look-said f e ea = said (x .tables) slots (by-ask (rw e) x (lookAsk r l) (rw e) (f .same) ea)
+  module _ (l : List ℕ) (t : Tables) (slots : List Session) (a : Answer) where
+    by-outcome : isRecord g ≡ true → (o : Outcome) → o ≡ rule (callIn g r l) (deskOf t slots) → a ≡ o .answer → Carried g r l t slots a (o .desk .tables) (o .desk .sessions)
+    by-outcome w o f ea =
+        let call-is : callAt v01 r l ≡ callIn g r l = rw (named w) (call-in-group r l) in
+        record { stands = w; same = rw (call-is, ea) f }
 
-  module _ (x : Outcome) where
-    pub slot-carried : (w : SlotCall) → Ruled x (onSlot (r .slot) (slotWork w r l)) (deskOf t slots) → g ≡ group.Slot w → a ≡ x .answer → (t′ : Tables) (slots′ : List Session)
-        → t′ ≡ x .desk .tables → slots′ ≡ x .desk .sessions → Carried g r l t slots a t′ slots′
-    slot-carried w f e ea t′ slots′ et es = rw (et, es) (by-call (rw e) x (onSlot (r .slot) (slotWork w r l)) (rw e) (f .same) ea)
+    said : (t′ : Tables) (slots′ : List Session) → Carried g r l t slots a t′ slots′ → Answered g r l t slots a
+    said t′ slots′ c = record { stands = c .stands; same = ap (λ (o : Outcome). o .answer) (c .same) }
 
-    pub slot-said : (w : SlotCall) → Ruled x (onSlot (r .slot) (slotWork w r l)) (deskOf t slots) → g ≡ group.Slot w → a ≡ x .answer → Answered g r l t slots a
-    slot-said w f e ea = said (x .desk .tables) (x .desk .sessions) (by-call (rw e) x (onSlot (r .slot) (slotWork w r l)) (rw e) (f .same) ea)
+    -- a call on the tables: the slots are as they were
+    by-ask : isRecord g ≡ true → (x : TablesOutcome) (q : Ask) → callIn g r l ≡ ask q → x ≡ askRule q t → a ≡ x .answer → Carried g r l t slots a (x .tables) slots
+    unfolding rule
+    by-ask w x q e f ea = by-outcome w (onTables (deskOf t slots) x) (rw (e, ← f)) ea
 
-    pub wide-carried : (w : WideCall) → Ruled x (wideCall w r l) (deskOf t slots) → g ≡ group.Wide w → a ≡ x .answer → (t′ : Tables) (slots′ : List Session)
-        → t′ ≡ x .desk .tables → slots′ ≡ x .desk .sessions → Carried g r l t slots a t′ slots′
-    wide-carried w f e ea t′ slots′ et es = rw (et, es) (by-call (rw e) x (wideCall w r l) (rw e) (f .same) ea)
+    -- one on the session of a slot: that slot is changed
+    by-work : isRecord g ≡ true → (x : SlotOutcome) (w : Work) → callIn g r l ≡ onSlot (r .slot) w → r .slot < 4 → x ≡ workRule w t (getD slots (r .slot) freshSession)
+        → a ≡ x .answer → Carried g r l t slots a (x .tables) (set slots (r .slot) (x .session))
+    unfolding rule
+    by-work i x w e h f ea = by-outcome i (withSlot (deskOf t slots) (r .slot) x) (rw (e, lt-leb slotRows (r .slot) h, ← f)) ea
 
-    pub wide-said : (w : WideCall) → Ruled x (wideCall w r l) (deskOf t slots) → g ≡ group.Wide w → a ≡ x .answer → Answered g r l t slots a
-    wide-said w f e ea = said (x .desk .tables) (x .desk .sessions) (by-call (rw e) x (wideCall w r l) (rw e) (f .same) ea)
+    -- one on no slot
+    none-carried : g ≡ group.NoSlot → a ≡ refusal BAD → Carried g r l t slots a t slots
+    none-carried e ea = record { stands = rw e; same = rw (no-slot-refused r l (deskOf t slots) (rw (← named (rw e), e)), ea) }
+
+    pub no-slot-carried : g ≡ group.NoSlot → a ≡ refusal BAD → (t′ : Tables) (slots′ : List Session) → t′ ≡ t → slots′ ≡ slots → Carried g r l t slots a t′ slots′
+    no-slot-carried e ea t′ slots′ et es = rw (et, es) (none-carried e ea)
+
+    pub no-slot-said : g ≡ group.NoSlot → a ≡ refusal BAD → Answered g r l t slots a
+    no-slot-said e ea = said t slots (none-carried e ea)
+
+    -- x is what the call on the tables gave
+    module _ (x : TablesOutcome) where
+      pub relays-carried : (w : RelayCall) → Asked x (relayAsk w r) t → g ≡ group.Relays w → a ≡ x .answer → (t′ : Tables) (slots′ : List Session) → t′ ≡ x .tables → slots′ ≡ slots
+          → Carried g r l t slots a t′ slots′
+      relays-carried w f e ea t′ slots′ et es = rw (et, es) (by-ask (rw e) x (relayAsk w r) (rw e) (f .same) ea)
+
+      pub relays-said : (w : RelayCall) → Asked x (relayAsk w r) t → g ≡ group.Relays w → a ≡ x .answer → Answered g r l t slots a
+      relays-said w f e ea = said (x .tables) slots (by-ask (rw e) x (relayAsk w r) (rw e) (f .same) ea)
+
+      pub volumes-carried : (w : VolumeCall) → Asked x (volumeAsk w r l) t → g ≡ group.Volumes w → a ≡ x .answer → (t′ : Tables) (slots′ : List Session) → t′ ≡ x .tables → slots′ ≡ slots
+          → Carried g r l t slots a t′ slots′
+      volumes-carried w f e ea t′ slots′ et es = rw (et, es) (by-ask (rw e) x (volumeAsk w r l) (rw e) (f .same) ea)
+
+      pub volumes-said : (w : VolumeCall) → Asked x (volumeAsk w r l) t → g ≡ group.Volumes w → a ≡ x .answer → Answered g r l t slots a
+      volumes-said w f e ea = said (x .tables) slots (by-ask (rw e) x (volumeAsk w r l) (rw e) (f .same) ea)
+
+      pub tokens-carried : (w : TokenCall) → Asked x (tokenAsk w r l) t → g ≡ group.Tokens w → a ≡ x .answer → (t′ : Tables) (slots′ : List Session) → t′ ≡ x .tables → slots′ ≡ slots
+          → Carried g r l t slots a t′ slots′
+      tokens-carried w f e ea t′ slots′ et es = rw (et, es) (by-ask (rw e) x (tokenAsk w r l) (rw e) (f .same) ea)
+
+      pub tokens-said : (w : TokenCall) → Asked x (tokenAsk w r l) t → g ≡ group.Tokens w → a ≡ x .answer → Answered g r l t slots a
+      tokens-said w f e ea = said (x .tables) slots (by-ask (rw e) x (tokenAsk w r l) (rw e) (f .same) ea)
+
+      pub look-carried : Asked x (lookAsk r l) t → g ≡ group.Look → a ≡ x .answer → (t′ : Tables) (slots′ : List Session) → t′ ≡ x .tables → slots′ ≡ slots
+          → Carried g r l t slots a t′ slots′
+      look-carried f e ea t′ slots′ et es = rw (et, es) (by-ask (rw e) x (lookAsk r l) (rw e) (f .same) ea)
+
+      pub look-said : Asked x (lookAsk r l) t → g ≡ group.Look → a ≡ x .answer → Answered g r l t slots a
+      look-said f e ea = said (x .tables) slots (by-ask (rw e) x (lookAsk r l) (rw e) (f .same) ea)
+
+      pub delete-carried : Asked x (deleteAsk r l) t → g ≡ group.Delete → a ≡ x .answer → (t′ : Tables) (slots′ : List Session) → t′ ≡ x .tables → slots′ ≡ slots
+          → Carried g r l t slots a t′ slots′
+      delete-carried f e ea t′ slots′ et es = rw (et, es) (by-ask (rw e) x (deleteAsk r l) (rw e) (f .same) ea)
+
+      pub delete-said : Asked x (deleteAsk r l) t → g ≡ group.Delete → a ≡ x .answer → Answered g r l t slots a
+      delete-said f e ea = said (x .tables) slots (by-ask (rw e) x (deleteAsk r l) (rw e) (f .same) ea)
+
+      pub remove-carried : Asked x (removeAsk r l) t → g ≡ group.Remove → a ≡ x .answer → (t′ : Tables) (slots′ : List Session) → t′ ≡ x .tables → slots′ ≡ slots
+          → Carried g r l t slots a t′ slots′
+      remove-carried f e ea t′ slots′ et es = rw (et, es) (by-ask (rw e) x (removeAsk r l) (rw e) (f .same) ea)
+
+      pub remove-said : Asked x (removeAsk r l) t → g ≡ group.Remove → a ≡ x .answer → Answered g r l t slots a
+      remove-said f e ea = said (x .tables) slots (by-ask (rw e) x (removeAsk r l) (rw e) (f .same) ea)
+
+      module _ (i : DeskInvariant (deskOf t slots)) (f : x ≡ advanceWithin (r .amount) t) (e : g ≡ group.Advance) (ea : a ≡ x .answer) where
+        advances : Carried g r l t slots a (x .tables) slots
+        advances = by-ask (rw e) x (Ask.advance (r .amount)) (rw e) (f ∙ advance-is (deskOf t slots) i (r .amount)) ea
+
+        pub advance-carried : (t′ : Tables) (slots′ : List Session) → t′ ≡ x .tables → slots′ ≡ slots → Carried g r l t slots a t′ slots′
+        advance-carried t′ slots′ et es = rw (et, es) advances
+
+        pub advance-said : Answered g r l t slots a
+        advance-said = said (x .tables) slots advances
+
+    -- x is what the call on the session of the slot gave
+    module _ (x : SlotOutcome) where
+      module _ (w : SlotCall) (f : Worked x (slotWork w r l) t slots (r .slot)) (e : g ≡ group.Slot w) (ea : a ≡ x .answer) where
+        works : Carried g r l t slots a (x .tables) (set slots (r .slot) (x .session))
+        works = by-work (rw e) x (slotWork w r l) (rw e) (slot-below w e) (f .same) ea
+
+        pub slot-carried : (t′ : Tables) (slots′ : List Session) → t′ ≡ x .tables → slots′ ≡ set slots (r .slot) (x .session)
+            → Carried g r l t slots a t′ slots′
+        slot-carried t′ slots′ et es = rw (et, es) works
+
+        pub slot-said : Answered g r l t slots a
+        slot-said = said (x .tables) (set slots (r .slot) (x .session)) works
+
+      module _ (i : DeskInvariant (deskOf t slots)) (f : x ≡ commitWithin t (getD slots (r .slot) freshSession)) (e : g ≡ group.Commit) (ea : a ≡ x .answer) where
+        commits-on : Carried g r l t slots a (x .tables) (set slots (r .slot) (x .session))
+        commits-on = by-work (rw e) x commits (rw e) (commit-below e) (f ∙ commit-is (deskOf t slots) i (r .slot) (commit-below e)) ea
+
+        pub commit-carried : (t′ : Tables) (slots′ : List Session) → t′ ≡ x .tables → slots′ ≡ set slots (r .slot) (x .session)
+            → Carried g r l t slots a t′ slots′
+        commit-carried t′ slots′ et es = rw (et, es) commits-on
+
+        pub commit-said : Answered g r l t slots a
+        commit-said = said (x .tables) (set slots (r .slot) (x .session)) commits-on

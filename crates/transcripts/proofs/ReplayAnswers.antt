@@ -19,7 +19,7 @@ use Rattle.rules.specs.Calls.{run}
 use Rattle.journal.specs.declared.Written.{Written}
 use Rattle.journal.specs.FieldLaws.{bytes-drop}
 use Rattle.journal.specs.Records.{v01}
-use Rattle.journal.specs.Journal.{journalMost, TOO-LARGE, stop, stopped, records, contents, versionFault, startFault, afterStart}
+use Rattle.journal.specs.Journal.{journalMost, TOO-LARGE, stop, Contents, stopped, records, contents, versionFault, startFault, afterStart}
 use Rattle.journal.specs.Theorems.{start-gives-the-contents}
 use Rattle.transcripts.specs.declared.Replayed.{Replayed}
 use Rattle.transcripts.specs.Transcript.{firstLine, lastLine, programRate, transcript}
@@ -137,7 +137,7 @@ module _ (l out₀ : List ℕ) (room : ℕ) (er : room ≡ roomFor (length l)) w
 
           desk-kept : startDesk ≡ deskAfter l
           unfolding deskAfter run
-          desk-kept = rw none-held
+          desk-kept = ap (λ (k : Contents). run (k .calls) startDesk) (sym none-held)
 
           pub fault-room : at + length (lastLine 0 (stop f)) ≤ length m
           fault-room = rw (← rest-stops) rest-room
@@ -168,7 +168,7 @@ module _ (l out₀ : List ℕ) (room : ℕ) (er : room ≡ roomFor (length l)) w
           module _ (r : Replayed) (out : List ℕ) (v : Replays at (records v01 (onRecords l)) m r out) where
             desk-left : r .desk ≡ deskAfter l
             unfolding deskAfter
-            desk-left = v .desk ∙ rw held
+            desk-left = v .desk ∙ ap (λ (k : Contents). run (k .calls) startDesk) (sym held)
 
             pub read-answer : r ≡ replayedOf l out₀
             read-answer = let e : r ≡ record { number = 0; len = r .len; desk = deskAfter l } = rw (v .number, desk-left) in

@@ -4,7 +4,6 @@
 use mathlib.Core.Path.{_≡_, refl, sym, _∙_, ap}
 use mathlib.Core.Bool.{true}
 use mathlib.Core.List.{List, [], _++_}
-use mathlib.Core.Option.{some}
 use Prim.Native.Nat.{ℕ, _+_, _-_, _<_, _≤_}
 use native.Mathlib.Omega.{arith}
 use mir.Syntax.{w64}
@@ -14,6 +13,7 @@ use lib.ListN.{length, drop, replicate, length-append}
 use Rattle.rules.specs.declared.Answer.{Answer}
 use Rattle.rules.specs.declared.Session.{Session}
 use Rattle.rules.specs.declared.Tables.{Tables}
+use Rattle.rules.specs.declared.Desk.{Desk}
 use Rattle.rules.specs.declared.Outcome.{Outcome}
 use Rattle.rules.specs.Fresh.{freshSession, freshTables, freshDesk}
 use Rattle.rules.specs.Calls.{Call, rule, step, run}
@@ -22,7 +22,8 @@ use Rattle.rules.specs.Laws.Reached.{call-keeps}
 use Rattle.rules.specs.Laws.FreshSound.{fresh-holds}
 use Rattle.journal.specs.declared.Record.{Record}
 use Rattle.journal.specs.Records.{v01}
-use Rattle.journal.specs.Journal.{Ending, end, stop, Contents, stopped, ended, records}
+use Rattle.journal.specs.Places.{callAt}
+use Rattle.journal.specs.Journal.{Ending, end, stop, Contents, stopped, ended, after, records}
 use Rattle.journal.specs.Writes.{over}
 use Rattle.transcripts.specs.declared.Group.{Group}
 use Rattle.transcripts.specs.declared.Group.the-variants as group
@@ -32,8 +33,8 @@ use Rattle.transcripts.specs.Transcript.{recordLine, lastLine, programRa
 use Rattle.transcripts.specs.TranscriptLaws.{printedFrom, from-call, from-last}
 use Rattle.transcripts.specs.RoomLaws.{answered}
 use Rattle.transcripts.specs.Written.{Wrote}
-use Rattle.transcripts.specs.Groups.{isRecord, callIn, StandsAt, BodyAt}
-use Rattle.transcripts.specs.ItemLaws.{Within, Standing, item-within, item-more, item-end, item-stop, item-call}
+use Rattle.transcripts.specs.Groups.{isRecord, StandsAt, BodyAt}
+use Rattle.transcripts.specs.ItemLaws.{RecordAt, Within, item-within, item-end, item-stop, item-record}
 use Rattle.transcripts.specs.Parts.{deskOf}
 use Rattle.lists.specs.OverLaws.{length-over, over-over}
 use Rattle.transcripts.specs.Replay.{Replays}
@@ -57,17 +58,14 @@ pub record ReplayLoop (l out₀ : List ℕ) (start : ℕ) (t : Tables) (slots : 
   pub left : over at (leftOf l t slots n p) out ≡ over start (wholeOf l) out₀
   pub desk : run (records v01 (drop p l) .calls) (deskOf t slots) ≡ run (records v01 l .calls) (freshDesk programRate)
 
--- what carrying out a record of the group gives: the answer of its call's rule, and with it the desk
-pub record Answered (g : Group) (r : Record) (body : List ℕ) (t : Tables) (slots : List Session) (a : Answer) : Type 0 where
-  pub call : Call
-  pub named : callIn g r body ≡ some call
-  pub same : a ≡ rule call (deskOf t slots) .answer
-
-pub record Carried (g : Group) (r : Record) (body : List ℕ) (t : Tables) (slots : List Session) (a : Answer) (t′ : Tables) (slots′ : List Session) : Type 0 where
+-- a record of the group g, with the fields r and the bytes b, is answered with a; and it leaves the tables t′ and the slots′
+pub record Answered (g : Group) (r : Record) (b : List ℕ) (t : Tables) (slots : List Session) (a : Answer) : Type 0 where
   pub stands : isRecord g ≡ true
-  pub call : Call
-  pub named : callIn g r body ≡ some call
-  pub same : record { answer = a; desk = deskOf t′ slots′ } ≡ rule call (deskOf t slots)
+  pub same : a ≡ rule (callAt v01 r b) (deskOf t slots) .answer
+
+pub record Carried (g : Group) (r : Record) (b : List ℕ) (t : Tables) (slots : List Session) (a : Answer) (t′ : Tables) (slots′ : List Session) : Type 0 where
+  pub stands : isRecord g ≡ true
+  pub same : record { answer = a; desk = deskOf t′ slots′ } ≡ rule (callAt v01 r b) (deskOf t slots)
 
 module _ (l out₀ : List ℕ) (start : ℕ) where
   pub replay-start : (t : Tables) (s : Session) → t ≡ freshTables programRate → s ≡ freshSession → areBytes l ≡ true → length l < 65536
@@ -91,6 +89,9 @@ module _ (l out₀ : List ℕ) (start : ℕ) where
     pub count-fits : Fits w64 (n + 1)
     count-fits = record { fits = omega (arith, h .count, h .place, h .short) }
 
+    counted : n + 1 - 1 ≡ n
+    counted = omega arith
+
     -- the last line, where no record is left
     module _ (e : Ending) (f : records v01 (drop p l) ≡ record { calls = []; ending = e }) where
       at-last : leftOf l t slots n p ≡ lastLine n e
@@ -110,10 +111,10 @@ module _ (l out₀ : List ℕ) (start : ℕ) where
             desk = rw f at (h .desk);
           })
 
-    -- x is what stands at p
+    -- x stands at p
     module _ (x : Item) (e : StandsAt l p x) where
       in-journal : Within l p (x .after)
-      in-journal = item-within l (h .bytes) p (h .place) x (e .same)
+      in-journal = item-within l (h .bytes) p x (e .same) (h .place)
 
       pub item-least : p ≤ x .after
       item-least = in-journal .least
@@ -121,63 +122,69 @@ module _ (l out₀ : List ℕ) (start : ℕ) where
       pub item-most : x .after ≤ length l
       item-most = in-journal .most
 
-      -- where a record stands, there are fewer bytes after it
-      more : isRecord (x .group) ≡ true → p + 3 ≤ x .after
-      more w = item-more l (h .bytes) p x (e .same) w
-
-      pub fewer-left : isRecord (x .group) ≡ true → length l - x .after < length l - p
-      fewer-left w = omega (arith, more w, item-most)
-
+      -- and is the end: n was counted once more
       module _ (w : x .group ≡ group.End) where
         at-end : records v01 (drop p l) ≡ ended
         at-end = item-end l (h .bytes) p x (e .same) w
 
-        pub end-room : at + length (lastLine n end) ≤ length out
-        end-room = last-room end at-end
+        pub end-room : at + length (lastLine (n + 1 - 1) end) ≤ length out
+        end-room = rw counted (last-room end at-end)
 
-        pub end-replays : (len : ℕ) (out′ : List ℕ) (r : Replayed) → Wrote at (lastLine n end) out len out′
+        pub end-replays : (len : ℕ) (out′ : List ℕ) (r : Replayed) → Wrote at (lastLine (n + 1 - 1) end) out len out′
             → r ≡ record { number = 0; len = len; desk = deskOf t slots } → Replays start (records v01 l) out₀ r out′
-        end-replays = last-replays end at-end
+        end-replays len out′ r f = last-replays end at-end len out′ r (rw counted at f)
 
+      -- and is a fault
       module _ (number : ℕ) (w : x .group ≡ group.Stop number) where
         at-stop : records v01 (drop p l) ≡ stopped number
         at-stop = item-stop l (h .bytes) p x (e .same) number w
 
-        pub stop-room : at + length (lastLine n (stop number)) ≤ length out
-        stop-room = last-room (stop number) at-stop
+        pub stop-room : at + length (lastLine (n + 1 - 1) (stop number)) ≤ length out
+        stop-room = rw counted (last-room (stop number) at-stop)
 
-        pub stop-replays : (len : ℕ) (out′ : List ℕ) (r : Replayed) → Wrote at (lastLine n (stop number)) out len out′
+        pub stop-replays : (len : ℕ) (out′ : List ℕ) (r : Replayed) → Wrote at (lastLine (n + 1 - 1) (stop number)) out len out′
             → r ≡ record { number = 0; len = len; desk = deskOf t slots } → Replays start (records v01 l) out₀ r out′
-        stop-replays = last-replays (stop number) at-stop
+        stop-replays len out′ r f = last-replays (stop number) at-stop len out′ r (rw counted at f)
 
-      -- the record of a call, whose bytes are b
+      -- and is a record
+      record-at : isRecord (x .group) ≡ true → RecordAt l p x
+      record-at w = item-record l (h .bytes) p x (e .same) (h .place) w
+
+      pub fewer-left : isRecord (x .group) ≡ true → length l - x .after < length l - p
+      fewer-left w = omega (arith, record-at w .least, item-most)
+
+      -- its bytes are b
       module _ (b : List ℕ) (eb : BodyAt l p (x .after) b) where
-        stands : (c : Call) → callIn (x .group) (x .fields) b ≡ some c → Standing l p (x .after) c
-        stands c w = item-call l (h .bytes) p x (e .same) c (rw (eb .same) at w)
+        abbrev call : Call
+        call = callAt v01 (x .fields) b
 
         abbrev rest : Contents
         rest = records v01 (drop (x .after) l)
 
-        printed : (c : Call) → callIn (x .group) (x .fields) b ≡ some c
-            → leftOf l t slots n p ≡ recordLine (n + 1) (step c (deskOf t slots) .answer) ++ printedFrom (n + 1) (step c (deskOf t slots) .desk) rest
-        printed c w = ap (printedFrom n (deskOf t slots)) (stands c w .left) ∙ from-call n (deskOf t slots) c rest
+        abbrev here : Desk
+        here = deskOf t slots
 
-        by-rule : (c : Call) → step c (deskOf t slots) ≡ rule c (deskOf t slots)
-        by-rule c = answered c (deskOf t slots) (h .held)
+        stands : isRecord (x .group) ≡ true → records v01 (drop p l) ≡ after call rest
+        stands w = rw (eb .same) (record-at w .left)
+
+        by-rule : step call here ≡ rule call here
+        by-rule = answered call here (h .held)
+
+        printed : isRecord (x .group) ≡ true → leftOf l t slots n p ≡ recordLine (n + 1) (step call here .answer) ++ printedFrom (n + 1) (step call here .desk) rest
+        printed w = ap (printedFrom n here) (stands w) ∙ from-call n here call rest
 
         -- answered: its line comes first in what is left
         module _ (a : Answer) (c : Answered (x .group) (x .fields) b t slots a) where
           pub line-room : at + length (recordLine (n + 1) a) ≤ length out
           line-room =
-              let said : step (c .call) (deskOf t slots) .answer ≡ a = rw (by-rule (c .call), c .same) in
-              let d = step (c .call) (deskOf t slots) .desk in
-              let left-is = rw said at (printed (c .call) (c .named)) in
-              omega (arith, ap length left-is, length-append (recordLine (n + 1) a) (printedFrom (n + 1) d rest), h .ends, h .room, h .size)
+              let said : step call here .answer ≡ a = rw (by-rule, c .same) in
+              let left-is = rw said at (printed (c .stands)) in
+              omega (arith, ap length left-is, length-append (recordLine (n + 1) a) (printedFrom (n + 1) (step call here .desk) rest), h .ends, h .room, h .size)
 
         -- carried out: the rest of what is left is printed from the desk after it
         module _ (a : Answer) (t′ : Tables) (slots′ : List Session) (c : Carried (x .group) (x .fields) b t slots a t′ slots′) where
-          stepped : step (c .call) (deskOf t slots) ≡ record { answer = a; desk = deskOf t′ slots′ }
-          stepped = by-rule (c .call) ∙ sym (c .same)
+          stepped : step call here ≡ record { answer = a; desk = deskOf t′ slots′ }
+          stepped = by-rule ∙ sym (c .same)
 
           abbrev line : List ℕ
           line = recordLine (n + 1) a
@@ -186,13 +193,13 @@ module _ (l out₀ : List ℕ) (start : ℕ) where
           later = leftOf l t′ slots′ (n + 1) (x .after)
 
           left-is : leftOf l t slots n p ≡ line ++ later
-          left-is = rw stepped at (printed (c .call) (c .named))
+          left-is = rw stepped at (printed (c .stands))
 
           desk-is : run (rest .calls) (deskOf t′ slots′) ≡ run (records v01 l .calls) (freshDesk programRate)
           unfolding run
           desk-is =
               ap (λ (o : Outcome). run (rest .calls) (o .desk)) (sym stepped)
-              ∙ sym (ap (λ (k : Contents). run (k .calls) (deskOf t slots)) (stands (c .call) (c .named) .left))
+              ∙ sym (ap (λ (k : Contents). run (k .calls) here) (stands (c .stands)))
               ∙ h .desk
 
           both : length (leftOf l t slots n p) ≡ length line + length later
@@ -207,8 +214,8 @@ module _ (l out₀ : List ℕ) (start : ℕ) where
                 bytes = h .bytes;
                 short = h .short;
                 place = item-most;
-                count = omega (arith, more (c .stands), h .count);
-                held = rw stepped at (call-keeps (c .call) (deskOf t slots) (h .held));
+                count = omega (arith, record-at (c .stands) .least, h .count);
+                held = rw stepped at (call-keeps call here (h .held));
                 size = rw (f .buffer) (length-over at line out within ∙ h .size);
                 room = h .room;
                 ends = omega (arith, both, f .place, h .ends);

@@ -1,12 +1,13 @@
 -- The kinds of calls by the part of the desk that they change, the call that a record of each stands for, and what stands at a place of a
 -- journal. Assumes nothing.
 use mathlib.Core.Path.{_≡_}
-use mathlib.Core.Bool.{Bool, true, false}
+use mathlib.Core.Bool.{Bool, true, false, cond}
 use mathlib.Core.List.{List}
-use mathlib.Core.Option.{Option, none, some}
 use Prim.Native.Nat.{ℕ, _+_, _-_}
+use lib.Dec.{leb}
 use lib.ListN.{take, drop}
 use Rattle.rules.specs.declared.Account.{Account}
+use Rattle.rules.specs.Limits.{slotRows}
 use Rattle.rules.specs.Scope.{ScopeArg}
 use Rattle.rules.specs.Calls.{Ask, advance, create, deposit, delete, undelete, grant, attenuate, revoke, remove, look, register, heartbeat, Work, opens, stages, commits, abandons, Call, ask, onSlot}
 use Rattle.journal.specs.declared.Kind.{Kind}
@@ -16,7 +17,7 @@ use Rattle.journal.specs.Records.{v01}
 use Rattle.journal.specs.declared.Next.{Next}
 use Rattle.journal.specs.declared.Next.the-variants.{End, Whole, Stop}
 use Rattle.journal.specs.Journal.{nextIn}
-use Rattle.journal.specs.Places.{blank, accountAt, textAt, hashAt}
+use Rattle.journal.specs.Places.{blank, accountAt, textAt, hashAt, callAt}
 use Rattle.transcripts.specs.declared.RelayCall.{RelayCall}
 use Rattle.transcripts.specs.declared.RelayCall.the-variants as relay
 use Rattle.transcripts.specs.declared.VolumeCall.{VolumeCall}
@@ -25,29 +26,32 @@ use Rattle.transcripts.specs.declared.TokenCall.{TokenCall}
 use Rattle.transcripts.specs.declared.TokenCall.the-variants as token
 use Rattle.transcripts.specs.declared.SlotCall.{SlotCall}
 use Rattle.transcripts.specs.declared.SlotCall.the-variants as slot
-use Rattle.transcripts.specs.declared.WideCall.{WideCall}
-use Rattle.transcripts.specs.declared.WideCall.the-variants as wide
 use Rattle.transcripts.specs.declared.Group.{Group}
 use Rattle.transcripts.specs.declared.Group.the-variants as group
 use Rattle.transcripts.specs.declared.Item.{Item}
 
-abbrev pub groupOf : Kind → Group
-groupOf kind.Advance = group.Wide wide.Advance
-groupOf kind.Create = group.Volumes volume.Create
-groupOf kind.Deposit = group.Volumes volume.Deposit
-groupOf kind.Delete = group.Wide wide.Delete
-groupOf kind.Undelete = group.Volumes volume.Undelete
-groupOf kind.Grant = group.Tokens token.Grant
-groupOf kind.Attenuate = group.Tokens token.Attenuate
-groupOf kind.Revoke = group.Tokens token.Revoke
-groupOf kind.Open = group.Slot slot.Open
-groupOf kind.Stage = group.Slot slot.Stage
-groupOf kind.Commit = group.Wide wide.Commit
-groupOf kind.Abandon = group.Slot slot.Abandon
-groupOf kind.Remove = group.Wide wide.Remove
-groupOf kind.Look = group.Look
-groupOf kind.Register = group.Relays relay.Register
-groupOf kind.Heartbeat = group.Relays relay.Heartbeat
+-- the group of a call on a slot: there are slots 0 to 3
+abbrev pub onSlotThere : ℕ → Group → Group
+onSlotThere j g = cond (leb slotRows j) group.NoSlot g
+
+-- the group of a record of the kind, with its slot
+abbrev pub groupOf : Kind → ℕ → Group
+groupOf kind.Advance j = group.Advance
+groupOf kind.Create j = group.Volumes volume.Create
+groupOf kind.Deposit j = group.Volumes volume.Deposit
+groupOf kind.Delete j = group.Delete
+groupOf kind.Undelete j = group.Volumes volume.Undelete
+groupOf kind.Grant j = group.Tokens token.Grant
+groupOf kind.Attenuate j = group.Tokens token.Attenuate
+groupOf kind.Revoke j = group.Tokens token.Revoke
+groupOf kind.Open j = onSlotThere j (group.Slot slot.Open)
+groupOf kind.Stage j = onSlotThere j (group.Slot slot.Stage)
+groupOf kind.Commit j = onSlotThere j group.Commit
+groupOf kind.Abandon j = onSlotThere j (group.Slot slot.Abandon)
+groupOf kind.Remove j = group.Remove
+groupOf kind.Look j = group.Look
+groupOf kind.Register j = group.Relays relay.Register
+groupOf kind.Heartbeat j = group.Relays relay.Heartbeat
 
 -- the account and the scope of a record, out of the bytes that it was read from
 abbrev pub accountIn : Record → List ℕ → Account
@@ -74,29 +78,32 @@ tokenAsk token.Revoke r l = revoke (accountIn r l) (record { 0 = r .no })
 abbrev pub lookAsk : Record → List ℕ → Ask
 lookAsk r l = look (record { 0 = r .no }) (textAt r l)
 
--- the calls on a slot
+abbrev pub deleteAsk : Record → List ℕ → Ask
+deleteAsk r l = delete (accountIn r l) (record { 0 = r .no })
+
+abbrev pub removeAsk : Record → List ℕ → Ask
+removeAsk r l = remove (accountIn r l) (record { 0 = r .no }) (textAt r l)
+
+-- the calls on a slot, but for commit
 abbrev pub slotWork : SlotCall → Record → List ℕ → Work
 slotWork slot.Open r l = opens (record { 0 = r .no })
 slotWork slot.Stage r l = stages (textAt r l) (r .amount) (record { 0 = hashAt r l })
 slotWork slot.Abandon r l = abandons
 
--- those that change several tables
-abbrev pub wideCall : WideCall → Record → List ℕ → Call
-wideCall wide.Advance r l = ask (advance (r .amount))
-wideCall wide.Delete r l = ask (delete (accountIn r l) (record { 0 = r .no }))
-wideCall wide.Commit r l = onSlot (r .slot) commits
-wideCall wide.Remove r l = ask (remove (accountIn r l) (record { 0 = r .no }) (textAt r l))
-
 -- the call of a record of the group; at the end and at a fault there is none
-abbrev pub callIn : Group → Record → List ℕ → Option Call
-callIn group.End r l = none
-callIn (group.Stop number) r l = none
-callIn (group.Relays w) r l = some (ask (relayAsk w r))
-callIn (group.Volumes w) r l = some (ask (volumeAsk w r l))
-callIn (group.Tokens w) r l = some (ask (tokenAsk w r l))
-callIn (group.Slot w) r l = some (onSlot (r .slot) (slotWork w r l))
-callIn group.Look r l = some (ask (lookAsk r l))
-callIn (group.Wide w) r l = some (wideCall w r l)
+abbrev pub callIn : Group → Record → List ℕ → Call
+callIn group.End r l = callAt v01 r l
+callIn (group.Stop number) r l = callAt v01 r l
+callIn (group.Relays w) r l = ask (relayAsk w r)
+callIn (group.Volumes w) r l = ask (volumeAsk w r l)
+callIn (group.Tokens w) r l = ask (tokenAsk w r l)
+callIn (group.Slot w) r l = onSlot (r .slot) (slotWork w r l)
+callIn group.NoSlot r l = callAt v01 r l
+callIn group.Look r l = ask (lookAsk r l)
+callIn group.Advance r l = ask (advance (r .amount))
+callIn group.Delete r l = ask (deleteAsk r l)
+callIn group.Commit r l = onSlot (r .slot) commits
+callIn group.Remove r l = ask (removeAsk r l)
 
 -- a record stands there
 abbrev pub isRecord : Group → Bool
@@ -106,8 +113,12 @@ isRecord (group.Relays w) = true
 isRecord (group.Volumes w) = true
 isRecord (group.Tokens w) = true
 isRecord (group.Slot w) = true
+isRecord group.NoSlot = true
 isRecord group.Look = true
-isRecord (group.Wide w) = true
+isRecord group.Advance = true
+isRecord group.Delete = true
+isRecord group.Commit = true
+isRecord group.Remove = true
 
 -- ---- what stands at a place
 
@@ -115,7 +126,7 @@ isRecord (group.Wide w) = true
 abbrev pub itemOf : ℕ → Next → Item
 itemOf p End = record { group = group.End; fields = blank kind.Advance; after = p }
 itemOf p (Stop number) = record { group = group.Stop number; fields = blank kind.Advance; after = p }
-itemOf p (Whole r n) = record { group = groupOf (r .kind); fields = r; after = p + n }
+itemOf p (Whole r n) = record { group = groupOf (r .kind) (r .slot); fields = r; after = p + n }
 
 -- x is what stands at the place p of the records l
 pub record StandsAt (l : List ℕ) (p : ℕ) (x : Item) : Type 0 where

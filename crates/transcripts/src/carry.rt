@@ -1,20 +1,24 @@
 // The work of a record, group by group: the call's fields are taken from the record and its bytes, and the call's crate does it.
 ghost use mathlib.Core.Path.{_≡_};
 ghost use Prim.Native.Nat.{_<_};
-ghost use lib.ListN.{getD};
+ghost use lib.ListN.{getD, set};
 ghost use Rattle.rules.specs.Fresh.{freshSession};
-ghost use Rattle.rules.specs.Calls.{workRule, Call};
+ghost use Rattle.rules.specs.Calls.{workRule};
+ghost use Rattle.entries.specs.Parts.{onRemove};
+ghost use Rattle.commits.specs.Parts.{onCommit};
+ghost use Rattle.commits.specs.Within.{commitWithin};
 ghost use Rattle.sessions.specs.Parts.{onSession};
 ghost use Rattle.relays.specs.Parts.{onRelays};
-ghost use Rattle.volumes.specs.Parts.{onVolumes};
+ghost use Rattle.volumes.specs.Parts.{onVolumes, onDelete};
 ghost use Rattle.tokens.specs.Parts.{onTokens, unchanged};
-ghost use Rattle.transcripts.specs.Groups.{relayAsk, volumeAsk, tokenAsk, lookAsk, slotWork};
-ghost use Rattle.transcripts.specs.Parts.{deskOf, onSlots, Asked, Ruled};
+ghost use Rattle.transcripts.specs.Groups.{relayAsk, volumeAsk, tokenAsk, lookAsk, deleteAsk, removeAsk, slotWork};
+ghost use Rattle.transcripts.specs.Parts.{Asked, Worked};
 use super::RelayCall;
 use super::SlotCall;
-use super::SlotsOutcome;
 use super::TokenCall;
 use super::VolumeCall;
+use commits::CommitOutcome;
+use entries::RemoveOutcome;
 use journal::Record;
 use journal::account_of;
 use journal::hash_of;
@@ -26,9 +30,9 @@ use rules::Session;
 use rules::Tables;
 use rules::TokenNo;
 use rules::VolumeNo;
-use rules::numbers::BAD;
 use sessions::SessionOutcome;
 use tokens::TokensOutcome;
+use volumes::DeleteOutcome;
 use volumes::VolumesOutcome;
 
 pub(crate) fn relay_call(t: Tables, which: RelayCall, r: Record) -> RelaysOutcome
@@ -83,6 +87,27 @@ pub(crate) fn look_call(t: Tables, r: Record, body: &[u8]) -> Answer
     tokens::look_on(t, TokenNo(r.no), text_of(body, r))
 }
 
+pub(crate) fn delete_call(t: Tables, r: Record, body: &[u8]) -> DeleteOutcome
+    ensures { λ o. ⌜ Asked (onDelete t o) (deleteAsk r (now (body .entry))) t ⌝ }
+{
+    volumes::delete_on(t, account_of(body, r), VolumeNo(r.no))
+}
+
+pub(crate) fn remove_call(t: Tables, r: Record, body: &[u8]) -> RemoveOutcome
+    ensures { λ o. ⌜ Asked (onRemove t o) (removeAsk r (now (body .entry))) t ⌝ }
+{
+    let a = account_of(body, r);
+    entries::remove_on(t, a, VolumeNo(r.no), text_of(body, r))
+}
+
+// The session of a slot.
+fn session_of(slots: [Session; 4], slot: usize) -> Session
+    requires { ⌜ slot < 4 ⌝ }
+    ensures { λ s. ⌜ s ≡ getD slots slot freshSession ⌝ }
+{
+    slots[slot]
+}
+
 // On the session of the slot.
 fn slot_work(t: Tables, s: Session, which: SlotCall, r: Record, body: &[u8]) -> SessionOutcome
     ensures { λ o. ⌜ onSession t o ≡ workRule (slotWork which r (now (body .entry))) t s ⌝ }
@@ -97,35 +122,35 @@ fn slot_work(t: Tables, s: Session, which: SlotCall, r: Record, body: &[u8]) -> 
     }
 }
 
-fn session_of(slots: [Session; 4], slot: usize) -> Session
-    requires { ⌜ slot < 4 ⌝ }
-    ensures { λ s. ⌜ s ≡ getD slots slot freshSession ⌝ }
-{
-    slots[slot]
-}
-
 pub(crate) fn slot_call(
     t: Tables,
     slots: [Session; 4],
     which: SlotCall,
     r: Record,
     body: &[u8],
-) -> SlotsOutcome
-    ensures { λ o. ⌜ Ruled (onSlots t o) (Call.onSlot (r .slot) (slotWork which r (now (body .entry)))) (deskOf t slots) ⌝ }
+) -> SessionOutcome
+    requires { ⌜ r .slot < 4 ⌝ }
+    ensures { λ o. ⌜ Worked (onSession t o) (slotWork which r (now (body .entry))) t slots (r .slot) ⌝ }
 {
-    if 4 <= r.slot {
-        let answer = rules::refusal(BAD);
-        return SlotsOutcome {
-            answer,
-            sessions: slots,
-        };
-    }
-    let slot = r.slot as usize;
-    let s = session_of(slots, slot);
-    let o = slot_work(t, s, which, r, body);
-    let answer = o.answer;
-    let session = o.session;
-    let mut sessions = slots;
-    sessions[slot] = session;
-    SlotsOutcome { answer, sessions }
+    let s = session_of(slots, r.slot as usize);
+    slot_work(t, s, which, r, body)
+}
+
+pub(crate) fn commit_call(t: Tables, slots: [Session; 4], slot: u8) -> CommitOutcome
+    requires { ⌜ slot < 4 ⌝ }
+    ensures { λ o. ⌜ onCommit t o ≡ commitWithin t (getD slots slot freshSession) ⌝ }
+{
+    let s = session_of(slots, slot as usize);
+    commits::commit_on(t, s)
+}
+
+// The slots with the session of one of them replaced.
+pub(crate) fn with_session(slots: [Session; 4], slot: u8, s: Session) -> [Session; 4]
+    requires { ⌜ slot < 4 ⌝ }
+    ensures { λ r. ⌜ r ≡ set slots slot s ⌝ }
+{
+    let i = slot as usize;
+    let mut next = slots;
+    next[i] = s;
+    next
 }

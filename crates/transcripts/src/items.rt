@@ -6,14 +6,13 @@ ghost use lib.ListN.{length};
 ghost use lib.Pow.{areBytes};
 ghost use Rattle.journal.specs.declared.Kind.{Kind};
 ghost use Rattle.journal.specs.Places.{blank};
-ghost use Rattle.transcripts.specs.Groups.{groupOf, StandsAt, BodyAt};
+ghost use Rattle.transcripts.specs.Groups.{groupOf, onSlotThere, StandsAt, BodyAt};
 use super::Group;
 use super::Item;
 use super::RelayCall;
 use super::SlotCall;
 use super::TokenCall;
 use super::VolumeCall;
-use super::WideCall;
 use amount::Cap;
 use journal::Kind;
 use journal::Next;
@@ -21,23 +20,34 @@ use journal::Record;
 use journal::next_record;
 use rules::Mode;
 
-fn group_of(kind: Kind) -> Group
-    ensures { λ r. ⌜ r ≡ groupOf kind ⌝ }
+// The group of a call on a slot, by whether there is such a slot.
+fn on_slot(slot: u8, group: Group) -> Group
+    ensures { λ r. ⌜ r ≡ onSlotThere slot group ⌝ }
+{
+    if 4 <= slot {
+        return Group::NoSlot;
+    }
+    group
+}
+
+// The group of a record of the kind.
+fn group_of(kind: Kind, slot: u8) -> Group
+    ensures { λ r. ⌜ r ≡ groupOf kind slot ⌝ }
 {
     match kind {
-        Kind::Advance => Group::Wide(WideCall::Advance),
+        Kind::Advance => Group::Advance,
         Kind::Create => Group::Volumes(VolumeCall::Create),
         Kind::Deposit => Group::Volumes(VolumeCall::Deposit),
-        Kind::Delete => Group::Wide(WideCall::Delete),
+        Kind::Delete => Group::Delete,
         Kind::Undelete => Group::Volumes(VolumeCall::Undelete),
         Kind::Grant => Group::Tokens(TokenCall::Grant),
         Kind::Attenuate => Group::Tokens(TokenCall::Attenuate),
         Kind::Revoke => Group::Tokens(TokenCall::Revoke),
-        Kind::Open => Group::Slot(SlotCall::Open),
-        Kind::Stage => Group::Slot(SlotCall::Stage),
-        Kind::Commit => Group::Wide(WideCall::Commit),
-        Kind::Abandon => Group::Slot(SlotCall::Abandon),
-        Kind::Remove => Group::Wide(WideCall::Remove),
+        Kind::Open => on_slot(slot, Group::Slot(SlotCall::Open)),
+        Kind::Stage => on_slot(slot, Group::Slot(SlotCall::Stage)),
+        Kind::Commit => on_slot(slot, Group::Commit),
+        Kind::Abandon => on_slot(slot, Group::Slot(SlotCall::Abandon)),
+        Kind::Remove => Group::Remove,
         Kind::Look => Group::Look,
         Kind::Register => Group::Relays(RelayCall::Register),
         Kind::Heartbeat => Group::Relays(RelayCall::Heartbeat),
@@ -90,7 +100,7 @@ pub(crate) fn item_at(journal: &[u8], p: usize) -> Item
         }
         Next::Whole(fields, len) => {
             let kind = fields.kind;
-            let group = group_of(kind);
+            let group = group_of(kind, fields.slot);
             Item {
                 group,
                 fields,

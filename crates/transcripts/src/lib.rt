@@ -5,15 +5,12 @@ mod items;
 mod journals;
 mod lines;
 mod records;
-mod wide;
 
 use journal::Record;
 pub use journals::replay;
 pub use journals::replay_into;
 pub use journals::room_for;
-use rules::Answer;
 use rules::Desk;
-use rules::Session;
 
 // The calls by the part of the desk that they change.
 pub enum RelayCall {
@@ -39,15 +36,8 @@ pub enum SlotCall {
     Abandon,
 }
 
-// Those that change several tables.
-pub enum WideCall {
-    Advance,
-    Delete,
-    Commit,
-    Remove,
-}
-
-// What stands at a place of a journal: its end, a fault, or the record of a call.
+// What stands at a place of a journal: its end, a fault, or a record, by what carries it out. A call on a slot that is not there
+// changes nothing.
 pub enum Group {
     End,
     Stop(u32),
@@ -55,8 +45,12 @@ pub enum Group {
     Volumes(VolumeCall),
     Tokens(TokenCall),
     Slot(SlotCall),
+    NoSlot,
     Look,
-    Wide(WideCall),
+    Advance,
+    Delete,
+    Commit,
+    Remove,
 }
 
 // With the record, and the place after it.
@@ -64,12 +58,6 @@ pub struct Item {
     pub group: Group,
     pub fields: Record,
     pub after: usize,
-}
-
-// What a call on a slot leaves: the four slots.
-pub struct SlotsOutcome {
-    pub answer: Answer,
-    pub sessions: [Session; 4],
 }
 
 // What a replay gives: 0 and the length of the transcript, or 12 and 0; and the desk after the calls of the journal.

@@ -13,20 +13,25 @@ ghost use Rattle.transcripts.specs.Transcript.{programRate};
 ghost use Rattle.transcripts.specs.TranscriptLaws.{printedFrom};
 use super::Group;
 use super::Replayed;
+use super::carry::commit_call;
+use super::carry::delete_call;
 use super::carry::look_call;
 use super::carry::relay_call;
+use super::carry::remove_call;
 use super::carry::slot_call;
 use super::carry::token_call;
 use super::carry::volume_call;
+use super::carry::with_session;
 use super::items::body_at;
 use super::items::item_at;
 use super::lines::put_end_line;
 use super::lines::put_record_line;
 use super::lines::put_stop_line;
-use super::wide::wide_call;
+use epochs::advance_on;
 use rules::Desk;
 use rules::Session;
 use rules::Tables;
+use rules::numbers::BAD;
 
 // The price of storage on the program's desk.
 pub(crate) const RATE: u16 = 100;
@@ -46,8 +51,8 @@ fn done(len: usize, t: Tables, slots: [Session; 4]) -> Replayed
     }
 }
 
-// The records of a journal one after another, and the last line. Each call's part is stored in place, so that a heartbeat moves
-// the relay table and nothing else.
+// The records of a journal one after another, and the last line. The parts that a call gives back are stored in place, so that a
+// heartbeat moves the relay table and nothing else. `n` is the place of what stands at `p`, from 1.
 pub(crate) fn replay_records(journal: &[u8], out: &mut [u8], start: usize) -> Replayed
     requires { ⌜ (areBytes (now journal) ≡ true) × (length (now journal) < 65536) × (start + length (printedFrom 0 (freshDesk programRate) (records v01 (now journal))) ≤ length (now out)) ⌝ }
     ensures { λ r. ⌜ Replays start (records v01 (now (journal .entry))) (now (out .entry)) r (now (out .exit)) ⌝ }
@@ -63,50 +68,86 @@ pub(crate) fn replay_records(journal: &[u8], out: &mut [u8], start: usize) -> Re
         let r = item.fields;
         let group = item.group;
         let body = body_at(journal, p, item.after);
-        let answer = match group {
-            Group::End => return done(put_end_line(out, at, n), t, slots),
-            Group::Stop(number) => return done(put_stop_line(out, at, n, number), t, slots),
+        p = item.after;
+        n += 1;
+        match group {
+            Group::End => return done(put_end_line(out, at, n - 1), t, slots),
+            Group::Stop(number) => return done(put_stop_line(out, at, n - 1, number), t, slots),
             Group::Relays(which) => {
                 let o = relay_call(t, which, r);
+                at = put_record_line(out, at, n, o.answer);
                 let relays = o.relays;
                 t.relays = relays;
                 t.last_relay = o.last;
-                o.answer
             }
             Group::Volumes(which) => {
                 let o = volume_call(t, which, r, body);
+                at = put_record_line(out, at, n, o.answer);
                 let volumes = o.volumes;
                 t.volumes = volumes;
                 t.last_volume = o.last;
                 t.deposits = o.deposits;
-                o.answer
             }
             Group::Tokens(which) => {
                 let o = token_call(t, which, r, body);
+                at = put_record_line(out, at, n, o.answer);
                 let tokens = o.tokens;
                 t.tokens = tokens;
                 t.last_token = o.last;
-                o.answer
             }
             Group::Slot(which) => {
                 let o = slot_call(t, slots, which, r, body);
-                let sessions = o.sessions;
+                at = put_record_line(out, at, n, o.answer);
+                let sessions = with_session(slots, r.slot, o.session);
                 slots = sessions;
-                o.answer
             }
-            Group::Look => look_call(t, r, body),
-            Group::Wide(which) => {
-                let o = wide_call(t, slots, which, r, body);
-                let desk = o.desk;
-                let tables = desk.tables;
-                let sessions = desk.sessions;
-                t = tables;
-                slots = sessions;
-                o.answer
+            Group::NoSlot => at = put_record_line(out, at, n, rules::refusal(BAD)),
+            Group::Look => at = put_record_line(out, at, n, look_call(t, r, body)),
+            Group::Advance => {
+                let o = advance_on(t, r.amount);
+                at = put_record_line(out, at, n, o.answer);
+                t.clock = o.clock;
+                let volumes = o.volumes;
+                t.volumes = volumes;
+                let entries = o.entries;
+                t.entries = entries;
+                let tokens = o.tokens;
+                t.tokens = tokens;
+                let relays = o.relays;
+                t.relays = relays;
             }
-        };
-        p = item.after;
-        n += 1;
-        at = put_record_line(out, at, n, answer);
+            Group::Delete => {
+                let o = delete_call(t, r, body);
+                at = put_record_line(out, at, n, o.answer);
+                let volumes = o.volumes;
+                t.volumes = volumes;
+                let tokens = o.tokens;
+                t.tokens = tokens;
+            }
+            Group::Commit => {
+                let o = commit_call(t, slots, r.slot);
+                at = put_record_line(out, at, n, o.answer);
+                let volumes = o.volumes;
+                t.volumes = volumes;
+                let entries = o.entries;
+                t.entries = entries;
+                let tokens = o.tokens;
+                t.tokens = tokens;
+                let relays = o.relays;
+                t.relays = relays;
+                let after = with_session(slots, r.slot, o.session);
+                slots = after;
+            }
+            Group::Remove => {
+                let o = remove_call(t, r, body);
+                at = put_record_line(out, at, n, o.answer);
+                let volumes = o.volumes;
+                t.volumes = volumes;
+                let entries = o.entries;
+                t.entries = entries;
+                let relays = o.relays;
+                t.relays = relays;
+            }
+        }
     }
 }

@@ -1,11 +1,10 @@
--- `replay_records` meets its contract: what is still to be printed, over the buffer from where the replay has come, gives the whole. Each arm of the
--- match has a line of its own where the record's line, the bytes left and the next turn are asked for. Assumes nothing.
-use mathlib.Core.Logic.{⊎-elim}
+-- `replay_records` meets its contract: what is still to be printed, over the buffer from where the replay has come, gives the whole, and the calls that
+-- are left lead to the desk after all of them. Each arm of the match has a line for its record's line and one for the next turn. Assumes nothing.
 use Prim.Native.Nat.{_-_}
 use lib.ListN.{length}
-use Rattle.transcripts.proofs.GroupLaws.{relays-stand, relays-said, relays-carried, volumes-stand, volumes-said, volumes-carried, tokens-stand, tokens-said, tokens-carried, slot-stand, slot-said, slot-carried, look-stand, look-said, look-carried, wide-stand, wide-said, wide-carried}
 use borrow.Author.Needs.{needs}
-use Rattle.transcripts.proofs.ReplayLaws.{ReplayLoop, replay-start, count-fits, ends, stops, places, line-room, fewer-left, replay-step}
+use Rattle.transcripts.proofs.GroupLaws.{relays-stand, relays-said, relays-carried, volumes-stand, volumes-said, volumes-carried, tokens-stand, tokens-said, tokens-carried, slot-below, slot-stand, slot-said, slot-carried, no-slot-stand, no-slot-said, no-slot-carried, look-stand, look-said, look-carried, advance-stand, advance-said, advance-carried, delete-stand, delete-said, delete-carried, commit-below, commit-stand, commit-said, commit-carried, remove-stand, remove-said, remove-carried}
+use Rattle.transcripts.proofs.ReplayLaws.{ReplayLoop, replay-start, count-fits, places, ends, stops, line-room, fewer-left, replay-step}
 use Rattle.transcripts.proofs.records.replay_records.Statement.{statement}
 use Rattle.transcripts.proofs.records.replay_records.Tie as tie
 
@@ -20,11 +19,14 @@ replay-records-spec =
     (λ c. search (replay-start, needs))
     (λ c κs. search needs)
     (λ c κs. search places)
+    (λ c. search count-fits)
+    (λ c. search needs)
     (λ c. search needs)
     (λ c κs. search ends)
     (λ c κs. search needs)
     (λ c. search needs)
     (λ c. search ends)  -- the end
+    (λ c. search needs)
     (λ c. search needs)
     (λ c κs. search stops)
     (λ c κs. search needs)
@@ -32,32 +34,53 @@ replay-records-spec =
     (λ c. search stops)  -- a fault
     (λ c. search needs)
     (λ c κs. search needs)
+    (λ c κs. search (line-room, relays-said))
+    (λ c. search (fewer-left, relays-stand))
+    (λ c. search (replay-step, relays-carried))
     (λ c. search needs)
     (λ c κs. search needs)
+    (λ c κs. search (line-room, volumes-said))
+    (λ c. search (fewer-left, volumes-stand))
+    (λ c. search (replay-step, volumes-carried))
     (λ c. search needs)
     (λ c κs. search needs)
+    (λ c κs. search (line-room, tokens-said))
+    (λ c. search (fewer-left, tokens-stand))
+    (λ c. search (replay-step, tokens-carried))
+    (λ c. search needs)
+    (λ c κs. search slot-below)
+    (λ c κs. search (line-room, slot-said))
+    (λ c κs. search slot-below)
+    (λ c. search (fewer-left, slot-stand))
+    (λ c. search (replay-step, slot-carried))
     (λ c. search needs)
     (λ c κs. search needs)
+    (λ c κs. search (line-room, no-slot-said))
+    (λ c. search (fewer-left, no-slot-stand))
+    (λ c. search (replay-step, no-slot-carried))
     (λ c. search needs)
     (λ c κs. search needs)
+    (λ c κs. search (line-room, look-said))
+    (λ c. search (fewer-left, look-stand))
+    (λ c. search (replay-step, look-carried))
     (λ c. search needs)
     (λ c κs. search needs)
-    (λ c. search count-fits)
-    (λ c κs. ⊎-elim (λ w. search (line-room, relays-said))
-    (⊎-elim (λ w. search (line-room, volumes-said))
-    (⊎-elim (λ w. search (line-room, tokens-said))
-    (⊎-elim (λ w. search (line-room, slot-said))
-    (⊎-elim (λ w. search (line-room, look-said))
-    (λ w. search (line-room, wide-said)))))) (c .before .match .came))
-    (λ c. ⊎-elim (λ w. search (fewer-left, relays-stand))
-    (⊎-elim (λ w. search (fewer-left, volumes-stand))
-    (⊎-elim (λ w. search (fewer-left, tokens-stand))
-    (⊎-elim (λ w. search (fewer-left, slot-stand))
-    (⊎-elim (λ w. search (fewer-left, look-stand))
-    (λ w. search (fewer-left, wide-stand)))))) (c .before .before .before .before .match .came))
-    (λ c. ⊎-elim (λ w. search (replay-step, relays-carried))
-    (⊎-elim (λ w. search (replay-step, volumes-carried))
-    (⊎-elim (λ w. search (replay-step, tokens-carried))
-    (⊎-elim (λ w. search (replay-step, slot-carried))
-    (⊎-elim (λ w. search (replay-step, look-carried))
-    (λ w. search (replay-step, wide-carried)))))) (c .before .before .before .before .match .came)))
+    (λ c κs. search (line-room, advance-said))
+    (λ c. search (fewer-left, advance-stand))
+    (λ c. search (replay-step, advance-carried))
+    (λ c. search needs)
+    (λ c κs. search needs)
+    (λ c κs. search (line-room, delete-said))
+    (λ c. search (fewer-left, delete-stand))
+    (λ c. search (replay-step, delete-carried))
+    (λ c. search needs)
+    (λ c κs. search commit-below)
+    (λ c κs. search (line-room, commit-said))
+    (λ c κs. search commit-below)
+    (λ c. search (fewer-left, commit-stand))
+    (λ c. search (replay-step, commit-carried))
+    (λ c. search needs)
+    (λ c κs. search needs)
+    (λ c κs. search (line-room, remove-said))
+    (λ c. search (fewer-left, remove-stand))
+    (λ c. search (replay-step, remove-carried)))

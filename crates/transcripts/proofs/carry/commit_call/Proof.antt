@@ -1,0 +1,13 @@
+-- `commit_call` meets its contract: the session of the slot is committed. Assumes nothing.
+use borrow.Author.Needs.{needs}
+use Rattle.transcripts.proofs.CarryLaws.{committed}
+use Rattle.transcripts.proofs.carry.commit_call.Statement.{statement}
+use Rattle.transcripts.proofs.carry.commit_call.Tie as tie
+
+pub commit-call-spec : {M : Type 1} → statement M
+commit-call-spec =
+    tie.close
+    (tie.spec
+    (λ c κs. search needs)
+    (λ c κs. search needs)
+    (λ c. search committed))
