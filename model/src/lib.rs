@@ -8,6 +8,7 @@ pub mod call;
 pub mod check;
 pub mod desk;
 pub mod journal;
+pub mod layout;
 pub mod random;
 pub mod second_list;
 pub mod survey;
