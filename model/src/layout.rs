@@ -153,3 +153,25 @@ pub fn desk_bytes(desk: &Desk) -> Vec<u8> {
     w.rows(&desk.sessions, Writer::session, |w| w.zeros(4 + 4 + 4 + 8 + PUTS * (TEXT + 48)));
     w.0
 }
+
+/// In words, what stands at a place of these bytes.
+pub fn place(at: usize) -> String {
+    let parts = [
+        ("clock and rate", 1, 10),
+        ("volume row", VOLUMES, 205),
+        ("entry row", ENTRIES, 284),
+        ("token row", TOKENS, 182),
+        ("relay row", RELAYS, 32),
+        ("last numbers and deposits", 1, 20),
+        ("slot", SLOTS, 1_428),
+    ];
+    let mut at = at;
+    for (name, rows, length) in parts {
+        if at < rows * length {
+            let row = if rows == 1 { String::new() } else { format!(" {}", at / length) };
+            return format!("{name}{row}, byte {}", at % length);
+        }
+        at -= rows * length;
+    }
+    format!("after the desk, byte {at}")
+}
