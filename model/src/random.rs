@@ -262,6 +262,37 @@ fn any_bytes(r: &mut Random) -> Vec<u8> {
     (0..count).map(|_| any_byte(r)).collect()
 }
 
+// Paths, prefixes and names.
+
+/// A text near a path, a prefix or a name.
+pub fn path_text(r: &mut Random) -> Vec<u8> {
+    let parts = ["a", "job", ".", "..", "...", "", "~!", "A_b-9", ".a", "x y", "\u{e9}", "\u{7f}"];
+    let mut text = match r.below(8) {
+        0 => vec![b'p'; *r.pick(&[1, 63, 64, 65, 127, 128, 129, 255])],
+        1 => vec![r.below(256) as u8],
+        2 => (0..r.below(12)).map(|_| *r.pick(b"ab./.-_ ")).collect(),
+        3 => r.pick(&NAMES).as_bytes().to_vec(),
+        _ => {
+            let good = r.chance(60);
+            let part = |r: &mut Random| match good {
+                true => *r.pick(&["a", "job", "...", "~!", "A_b-9", ".a"]),
+                false => *r.pick(&parts),
+            };
+            let count = r.between(1, 5);
+            let parts: Vec<&str> = (0..count).map(|_| part(r)).collect();
+            parts.join("/").into_bytes()
+        }
+    };
+    if r.chance(25) {
+        text.push(b'/');
+    }
+    if r.chance(10) && !text.is_empty() {
+        let at = r.index(text.len());
+        text[at] = r.below(256) as u8;
+    }
+    text
+}
+
 // Histories.
 
 /// How a history is inclined.
@@ -278,6 +309,8 @@ struct Habits {
     few_relays: bool,
     /// The entry table is filled again and again.
     crowded: bool,
+    /// Time goes on slowly, so that relays stay and sessions are committed.
+    steady: bool,
 }
 
 /// Makes a history while running it, so that calls meet the desk as it is.
@@ -326,6 +359,7 @@ impl Maker {
             poor: r.chance(30),
             few_relays: r.chance(20),
             crowded: r.chance(15),
+            steady: r.chance(40),
         };
         Maker { r, desk: Desk::fresh(rate), habits, calls: Vec::new() }
     }
@@ -360,7 +394,9 @@ impl Maker {
         if self.habits.crowded && self.r.chance(4) {
             return self.crowd();
         }
+        let steady = self.habits.steady && self.r.chance(85);
         match self.r.below(134) {
+            17..=19 | 124..=134 if steady => self.whole_session(),
             0..=9 => self.step(),
             10..=16 => self.keep_alive(),
             17..=19 => self.jump(),
@@ -580,10 +616,11 @@ impl Maker {
 
     fn step(&mut self) {
         let jumps = self.habits.jumps;
-        if self.r.chance(jumps / 4) {
+        if !self.habits.steady && self.r.chance(jumps / 4) {
             return self.jump();
         }
-        let block = self.desk.tables.clock + self.r.below(40);
+        let most = if self.habits.steady { 12 } else { 40 };
+        let block = self.desk.tables.clock + self.r.below(most);
         self.push(Call::Advance { block });
     }
 
@@ -1143,11 +1180,16 @@ impl Maker {
 
 /// A whole journal of about `most` calls at the program's rate, cut to the longest length.
 pub fn whole_journal(seed: u64, most: usize) -> Vec<u8> {
+    cut_journal(seed, most, journal::MOST)
+}
+
+/// The records of a history that fit in a journal of `longest` bytes.
+fn cut_journal(seed: u64, most: usize, longest: usize) -> Vec<u8> {
     let mut journal = vec![journal::FORMAT];
     for call in history(seed, RATE, most) {
         // Every text made here has at most 255 bytes and every mode is known.
         let record = journal::write_record(&call, usize::MAX).unwrap();
-        if journal.len() + record.len() <= journal::MOST {
+        if journal.len() + record.len() <= longest {
             journal.extend(record);
         }
     }
@@ -1160,9 +1202,9 @@ pub fn journal_for(seed: u64) -> Vec<u8> {
     match seed % 8 {
         0 => whole_journal(seed, 60),
         1..=3 => whole_journal(seed, 1_000),
-        4..=6 => whole_journal(seed, 5_000),
+        4..=6 => whole_journal(seed, 4_000),
         _ => {
-            let mut journal = whole_journal(seed, 2_000);
+            let mut journal = cut_journal(seed, 4_000, journal::MOST - 40);
             pad_to(&mut journal, journal::MOST);
             journal
         }
