@@ -4,6 +4,7 @@
 //! so that a difference between the two points at a mistake in one of them.
 
 pub mod amount;
+pub mod array_desk;
 pub mod call;
 pub mod check;
 pub mod desk;
@@ -11,6 +12,7 @@ pub mod journal;
 pub mod layout;
 pub mod random;
 pub mod second_list;
+pub mod settings;
 pub mod survey;
 
 /// Refusal numbers.
