@@ -108,11 +108,11 @@ impl Text {
         self.bytes.get(..self.len)
     }
 
-    fn is_path(&self) -> bool {
+    fn is_path(&self, is_path: IsPath) -> bool {
         self.get().is_some_and(is_path)
     }
 
-    fn is_prefix(&self) -> bool {
+    fn is_prefix(&self, is_path: IsPath) -> bool {
         match self.get().map(|text| text.split_last()) {
             Some(Some((last, path))) => *last == b'/' && is_path(path),
             Some(None) => true,
@@ -132,8 +132,11 @@ impl Text {
     }
 }
 
-/// In one walk: bytes in 0x21..0x7E, and no part that is empty, "." or "..".
-fn is_path(text: &[u8]) -> bool {
+/// Whether at most 128 bytes are a path.
+pub type IsPath = fn(&[u8]) -> bool;
+
+/// One walk, byte by byte: bytes in 0x21..0x7E, and no part that is empty, "." or "..".
+pub fn is_path_by_bytes(text: &[u8]) -> bool {
     // Bytes in the part so far, and whether all of them are ".".
     let (mut count, mut dots) = (0, true);
     for byte in text {
@@ -150,8 +153,26 @@ fn is_path(text: &[u8]) -> bool {
     count > 0 && !(dots && count <= 2)
 }
 
+/// Walks that do not stop before the end, which the compiler turns into instructions on many bytes at once. Only a text
+/// with a "." in it is looked at part by part.
+pub fn is_path_by_walks(text: &[u8]) -> bool {
+    let (Some(first), Some(last)) = (text.first(), text.last()) else {
+        return false;
+    };
+    let in_range = text.iter().fold(true, |all, b| all & (0x21..=0x7E).contains(b));
+    let dots = text.iter().fold(false, |any, b| any | (*b == b'.'));
+    if dots {
+        let is_part = |part: &[u8]| !part.is_empty() && part != b"." && part != b"..";
+        return in_range && text.split(|b| *b == b'/').all(is_part);
+    }
+    let pairs = text.iter().zip(&text[1..]);
+    let doubled = pairs.fold(false, |any, (a, b)| any | ((*a == b'/') & (*b == b'/')));
+    in_range && !doubled && *first != b'/' && *last != b'/'
+}
+
 /// Tests desks. It keeps tables by relay number, so that each shard is counted with one look.
 pub struct Tester {
+    is_path: IsPath,
     /// The row of a relay in the table, or RELAYS.
     row: Vec<u8>,
     /// The last placement that named the relay.
@@ -159,14 +180,13 @@ pub struct Tester {
     placements: u64,
 }
 
-impl Default for Tester {
-    fn default() -> Tester {
-        let numbers = LAST_NUMBER as usize + 1;
-        Tester { row: vec![RELAYS as u8; numbers], seen: vec![0; numbers], placements: 0 }
-    }
-}
-
 impl Tester {
+    /// A tester with one of the two ways to test a path.
+    pub fn new(is_path: IsPath) -> Tester {
+        let numbers = LAST_NUMBER as usize + 1;
+        Tester { is_path, row: vec![RELAYS as u8; numbers], seen: vec![0; numbers], placements: 0 }
+    }
+
     /// Whether a desk passes the test that is answered 1 before all else.
     pub fn test(&mut self, d: &ArrayDesk) -> bool {
         let lasts = d.last_volume.max(d.last_token).max(d.last_relay);
@@ -174,8 +194,8 @@ impl Tester {
             && d.deposits <= MOST_DEPOSITS
             && lasts <= LAST_NUMBER
             && volumes(d)
-            && tokens(d)
-            && d.sessions.iter().all(|s| s.token == 0 || session(d, s))
+            && tokens(d, self.is_path)
+            && d.sessions.iter().all(|s| s.token == 0 || session(d, s, self.is_path))
             && self.entries_and_relays(d)
     }
 
@@ -188,7 +208,7 @@ impl Tester {
             }
             self.row[relay.no as usize] = row as u8;
         }
-        let sound = paths(d) && self.loads(d);
+        let sound = paths(d, self.is_path) && self.loads(d);
         self.clear(d);
         sound
     }
@@ -259,7 +279,7 @@ fn volumes(d: &ArrayDesk) -> bool {
     })
 }
 
-fn tokens(d: &ArrayDesk) -> bool {
+fn tokens(d: &ArrayDesk, is_path: IsPath) -> bool {
     // The row of each token's parent; its own where it has none.
     let mut parents = [0; TOKENS];
     for (row, token) in d.tokens.iter().enumerate().filter(|(_, t)| t.no != 0) {
@@ -276,7 +296,7 @@ fn tokens(d: &ArrayDesk) -> bool {
             && token.cap.is_allowed()
             && token.from <= token.until
             && token.used <= MOST_USED
-            && token.prefix.is_prefix()
+            && token.prefix.is_prefix(is_path)
             && d.volumes.iter().any(|v| v.no == token.volume)
             && token.volume != 0
             && !d.tokens[..row].iter().any(|t| t.no == token.no);
@@ -291,10 +311,10 @@ fn tokens(d: &ArrayDesk) -> bool {
 }
 
 /// Sizes and paths, and no path twice in a volume.
-fn paths(d: &ArrayDesk) -> bool {
+fn paths(d: &ArrayDesk, is_path: IsPath) -> bool {
     let mut keys = [0; ENTRIES];
     for (row, entry) in d.entries.iter().enumerate().filter(|(_, e)| e.volume != 0) {
-        if entry.size > MOST_SIZE || !entry.path.is_path() {
+        if entry.size > MOST_SIZE || !entry.path.is_path(is_path) {
             return false;
         }
         keys[row] = entry.path.key();
@@ -309,14 +329,14 @@ fn paths(d: &ArrayDesk) -> bool {
     true
 }
 
-fn session(d: &ArrayDesk, s: &Session) -> bool {
+fn session(d: &ArrayDesk, s: &Session, is_path: IsPath) -> bool {
     let Some(puts) = s.puts.get(..s.count) else {
         return false;
     };
     let is_same = |a: &Put, b: &Put| a.path.len == b.path.len && a.path.get() == b.path.get();
     s.token <= d.last_token
         && (1..=d.last_volume).contains(&s.volume)
-        && puts.iter().all(|p| p.size <= MOST_SIZE && p.path.is_path())
+        && puts.iter().all(|p| p.size <= MOST_SIZE && p.path.is_path(is_path))
         && puts.iter().enumerate().all(|(at, p)| !puts[..at].iter().any(|q| is_same(p, q)))
 }
 

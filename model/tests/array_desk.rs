@@ -1,9 +1,9 @@
 //! The test that is answered 1 before all else: desks that pass it, and one part broken at a time.
 
 use model::amount::Cap;
-use model::array_desk::{ArrayDesk, Tester, Text};
-use model::desk::{Desk, RATE};
-use model::random::{history, rate_for};
+use model::array_desk::{is_path_by_bytes, is_path_by_walks, ArrayDesk, Tester, Text};
+use model::desk::{is_path, Desk, RATE};
+use model::random::{history, path_text, rate_for, Random};
 use model::settings::{calls, EMPTY, FULL, HALF};
 
 fn full() -> ArrayDesk {
@@ -104,7 +104,13 @@ const SOUND: [(&str, Change); 7] = [
 
 #[test]
 fn one_part_broken() {
-    let (desk, mut tester) = (full(), Tester::default());
+    for is_path in [is_path_by_bytes, is_path_by_walks] {
+        broken_parts(Tester::new(is_path));
+    }
+}
+
+fn broken_parts(mut tester: Tester) {
+    let desk = full();
     for (name, change) in BROKEN.iter().chain(&BROKEN_SLOTS) {
         let mut broken = desk.clone();
         change(&mut broken);
@@ -116,7 +122,7 @@ fn one_part_broken() {
 
 #[test]
 fn still_sound() {
-    let (desk, mut tester) = (full(), Tester::default());
+    let (desk, mut tester) = (full(), Tester::new(is_path_by_walks));
     for (name, change) in SOUND {
         let mut other = desk.clone();
         change(&mut other);
@@ -140,12 +146,12 @@ fn free_rows() {
     desk.sessions.iter_mut().for_each(|s| s.token = 0);
     (desk.volumes[7].k, desk.entries[63].len, desk.sessions[3].count) = (0, 99, 99);
     (desk.last_volume, desk.last_token, desk.last_relay) = (0, 0, 0);
-    assert!(Tester::default().test(&desk));
+    assert!(Tester::new(is_path_by_bytes).test(&desk));
 }
 
 #[test]
 fn every_desk_reached_passes() {
-    let mut tester = Tester::default();
+    let mut tester = Tester::new(is_path_by_walks);
     for seed in 1..=60 {
         let rate = rate_for(seed);
         let mut desk = Desk::fresh(rate);
@@ -154,5 +160,20 @@ fn every_desk_reached_passes() {
                 assert!(tester.test(&ArrayDesk::from(&desk)), "seed {seed}, call {place}");
             }
         }
+    }
+}
+
+#[test]
+fn paths_in_two_ways() {
+    let mut r = Random::new(3);
+    for _ in 0..200_000 {
+        let mut text = path_text(&mut r);
+        text.truncate(128);
+        let wanted = is_path(&text);
+        assert_eq!(
+            (is_path_by_bytes(&text), is_path_by_walks(&text)),
+            (wanted, wanted),
+            "{text:?}"
+        );
     }
 }
