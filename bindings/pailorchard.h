@@ -66,9 +66,8 @@ bool pailorchard_is_prefix(const uint8_t *text, size_t len);
 bool pailorchard_is_name(const uint8_t *text, size_t len);
 
 /* For the benchmark. Replays a journal as pailorchard_replay does, into `transcript`, then tests the desk after it
- * `times` times (the test that is answered 1 before all else), with the clock one block later each time, and gives how
- * many of these tests it passed. Where `transcript_len` is less than pailorchard_replay_room(journal_len): 0, and
- * `transcript` is as it was. */
+ * `times` times (the test that is answered 1 before all else), and gives how many of these tests it passed. Where
+ * `transcript_len` is less than pailorchard_replay_room(journal_len): 0, and `transcript` is as it was. */
 uint64_t pailorchard_test_desk(const uint8_t *journal, size_t journal_len, uint8_t *transcript, size_t transcript_len,
                                uint64_t times);
 

@@ -26,13 +26,11 @@ fn library(journal: &[u8], rounds: usize) -> Duration {
     with.saturating_sub(without)
 }
 
-/// The plain test of the same desk, its clock one block later each time.
+/// The plain test of the same desk.
 fn plain(desk: &Desk, is_path: IsPath, rounds: usize) -> Duration {
-    let (mut array, mut tester) = (ArrayDesk::from(desk), Tester::new(is_path));
-    let clock = array.clock;
+    let (array, mut tester) = (ArrayDesk::from(desk), Tester::new(is_path));
     let mut work = || {
-        for time in 0..TIMES {
-            array.clock = clock + time;
+        for _ in 0..TIMES {
             assert!(black_box(tester.test(black_box(&array))), "the desk does not pass the test");
         }
     };

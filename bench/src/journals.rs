@@ -133,11 +133,20 @@ fn removes(_: usize) -> Vec<Call> {
     calls
 }
 
-fn kinds(rounds: usize) {
-    let one = |name: &str, (journal, counted): (Vec<u8>, usize)| {
-        let refused = if all_accepted(&journal) { "" } else { ", some refused" };
-        show(&format!("{name}{refused}"), &journal, counted, rounds);
-    };
+/// A journal with its name and how many calls or sessions are counted in it.
+pub struct Named {
+    pub name: String,
+    pub journal: Vec<u8>,
+    counted: usize,
+}
+
+fn named(name: &str, (journal, counted): (Vec<u8>, usize)) -> Named {
+    let refused = if all_accepted(&journal) { "" } else { ", some refused" };
+    Named { name: format!("{name}{refused}"), journal, counted }
+}
+
+/// Journals of mostly one kind of call.
+pub fn kinds() -> Vec<Named> {
     let beat = |relays: usize| {
         move |step: usize| vec![Call::Heartbeat { relay: (step % relays) as u32 + 1 }]
     };
@@ -150,38 +159,40 @@ fn kinds(rounds: usize) {
     };
     let coins = |_: usize| vec![Call::Deposit { volume: 1, coins: 1 }];
     let staging = |s: Setting| Setting { sessions: 1, ..s };
-    one("10 heartbeats, 10 relays", filled(SOME, beat(10), any));
-    one("10 heartbeats, all tables full", filled(LARGE, beat(32), any));
-    one("0A stages, short paths", filled(staging(SOME), stage(SOME), any));
-    one("0A stages, paths of 128 bytes", filled(staging(LONG), stage(LONG), any));
-    one("0E looks, 64 entries, short paths", filled(MANY, look(MANY), any));
-    one("0E looks, 64 entries, paths of 128", filled(LONG, look(LONG), any));
-    one("09 0B open, commit of 0 puts: a session", filled(SOME, empty, is_commit));
-    one("09 0C opens, abandons", filled(SOME, gone, any));
-    one("0A 0B 8 puts, 4+2, 64 entries: a session", filled(MANY, commit(MANY), is_commit));
-    one("0A 0B 8 puts, 16+8, all full: a session", filled(LARGE, commit(LARGE), is_commit));
-    one("0A 0B 8 puts, paths of 128: a session", filled(LONG, commit(LONG), is_commit));
-    one("02 04 creates, deletes, collected", filled(EMPTY, creates, any));
-    one("03 deposits", filled(SOME, coins, any));
-    one("04 05 deletes, undeletes", filled(Setting { chains: 0, entries: 0, ..SOME }, back, any));
-    one("06 08 grants, revokes", filled(SOME, grants, any));
-    one("06 07 08 chains of 8 made, revoked", filled(SOME, attenuates, any));
-    one("0B 0D 8 removes, 8 puts", filled(SOME, removes, any));
-    one("0F registers, and all leave", filled(EMPTY, registers, any));
-    one(
-        "01 advances by 1 block, 8 volumes",
-        filled(Setting { relays: 0, entries: 0, ..LARGE }, block(1), any),
-    );
-    one("01 advances by an epoch, 64 entries", filled(LARGE, block(EPOCH), any));
+    let bare = Setting { chains: 0, entries: 0, ..SOME };
+    let still = Setting { relays: 0, entries: 0, ..LARGE };
+    vec![
+        named("10 heartbeats, 10 relays", filled(SOME, beat(10), any)),
+        named("10 heartbeats, all tables full", filled(LARGE, beat(32), any)),
+        named("0A stages, short paths", filled(staging(SOME), stage(SOME), any)),
+        named("0A stages, paths of 128", filled(staging(LONG), stage(LONG), any)),
+        named("0E looks, 64 entries, short paths", filled(MANY, look(MANY), any)),
+        named("0E looks, 64 entries, paths of 128", filled(LONG, look(LONG), any)),
+        named("09 0B open, commit of 0 puts: a session", filled(SOME, empty, is_commit)),
+        named("09 0C opens, abandons", filled(SOME, gone, any)),
+        named("0A 0B 8 puts, 4+2, 64 entries: a session", filled(MANY, commit(MANY), is_commit)),
+        named("0A 0B 8 puts, 16+8, all full: a session", filled(LARGE, commit(LARGE), is_commit)),
+        named("0A 0B 8 puts, paths of 128: a session", filled(LONG, commit(LONG), is_commit)),
+        named("02 04 creates, deletes, collected", filled(EMPTY, creates, any)),
+        named("03 deposits", filled(SOME, coins, any)),
+        named("04 05 deletes, undeletes", filled(bare, back, any)),
+        named("06 08 grants, revokes", filled(SOME, grants, any)),
+        named("06 07 08 chains of 8 made, revoked", filled(SOME, attenuates, any)),
+        named("0B 0D 8 removes, 8 puts", filled(SOME, removes, any)),
+        named("0F registers, and all leave", filled(EMPTY, registers, any)),
+        named("01 advances by 1 block, 8 volumes", filled(still, block(1), any)),
+        named("01 advances by an epoch, 64 entries", filled(LARGE, block(EPOCH), any)),
+    ]
 }
 
 /// Mixed journals of exactly 65,536 bytes, as the comparison runs them.
-fn mixed(rounds: usize) {
-    for seed in (7..64).step_by(8) {
+pub fn mixed() -> Vec<Named> {
+    let of = |seed| {
         let journal = journal_for(seed);
-        let calls = read_journal(&journal).0.len();
-        show(&format!("mixed, {} bytes, seed {seed}", journal.len()), &journal, calls, rounds);
-    }
+        let counted = read_journal(&journal).0.len();
+        Named { name: format!("mixed, {} bytes, seed {seed}", journal.len()), journal, counted }
+    };
+    (7..64).step_by(8).map(of).collect()
 }
 
 /// The same kind of journal at a quarter, a half and the whole of the longest.
@@ -204,9 +215,21 @@ fn heading(title: &str) {
 
 pub fn run(rounds: usize) {
     heading("Replay of journals of mostly one kind of call, µs for each");
-    kinds(rounds);
+    kinds().iter().for_each(|n| show(&n.name, &n.journal, n.counted, rounds));
     heading("Replay of mixed journals, µs for each call");
-    mixed(rounds);
+    mixed().iter().for_each(|n| show(&n.name, &n.journal, n.counted, rounds));
     heading("Replay of longer and longer journals, µs for each call");
     growth(rounds);
+}
+
+/// Replays one journal so many times with one of the two, so that its instructions can be counted.
+pub fn once(journal: &[u8], by_library: bool, times: usize) {
+    let mut out = vec![0; pailorchard::replay_room(journal.len())];
+    for _ in 0..times {
+        if by_library {
+            let _ = black_box(pailorchard::replay_into(black_box(journal), &mut out));
+        } else {
+            black_box(journal::replay(black_box(journal)));
+        }
+    }
 }

@@ -213,8 +213,8 @@ pub fn is_name(text: &[u8]) -> bool {
     unsafe { raw::pailorchard_is_name(text.as_ptr(), text.len()) }
 }
 
-/// For the benchmark: replays a journal, tests the desk after it `times` times, the clock one block later each time,
-/// and gives how many of the tests it passed. 0 where `transcript` is shorter than `replay_room` of the journal's length.
+/// For the benchmark: replays a journal, tests the desk after it `times` times, and gives how many of the tests it
+/// passed. 0 where `transcript` is shorter than `replay_room` of the journal's length.
 pub fn test_desk(journal: &[u8], transcript: &mut [u8], times: u64) -> u64 {
     // SAFETY: see above.
     unsafe {

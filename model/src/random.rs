@@ -395,8 +395,8 @@ impl Maker {
             return self.crowd();
         }
         let steady = self.habits.steady && self.r.chance(85);
-        match self.r.below(134) {
-            17..=19 | 124..=134 if steady => self.whole_session(),
+        match self.r.below(136) {
+            17..=19 | 124..=133 if steady => self.whole_session(),
             0..=9 => self.step(),
             10..=16 => self.keep_alive(),
             17..=19 => self.jump(),
@@ -425,7 +425,8 @@ impl Maker {
             126 => self.clear_slots(),
             127..=128 => self.life_of_relay(),
             129 => self.lose_volume(),
-            _ => self.poor_volume(),
+            130..=133 => self.poor_volume(),
+            _ => self.edge_of_rent(),
         }
     }
 
@@ -1154,6 +1155,37 @@ impl Maker {
             3 => self.push(Call::Undelete { account, volume }),
             4 => self.remove(),
             _ => {}
+        }
+    }
+
+    /// A volume with one epoch's rent, or one coin more, and an object whose effective size is rounded up past that rent,
+    /// or just not.
+    fn edge_of_rent(&mut self) {
+        self.refill();
+        let (k, m) = *self.r.pick(&[(3, 1), (3, 2), (3, 3), (4, 2), (5, 1)]);
+        let (rent, account) = (self.r.between(1, 40), self.account());
+        let name = format!("edge{}", self.r.below(4)).into_bytes();
+        let answer = self.ask(Call::Create { account, name, k, m, cap: Cap::Unlimited });
+        let volume = value(&answer) as u32;
+        let coins = rent + self.r.below(2);
+        self.push(Call::Deposit { volume, coins });
+        let scope =
+            Scope { prefix: vec![], mode: 2, cap: Cap::Unlimited, from: 0, until: u64::MAX };
+        let token = value(&self.ask(Call::Grant { account, volume, scope })) as u32;
+        // The largest effective size at this rent, and the smallest raw size that is above it.
+        let largest = (rent << 20) / u64::from(self.desk.tables.rate.max(1));
+        let above = largest * u64::from(k) / u64::from(k + m) + 1;
+        let size = above - u64::from(self.r.chance(40));
+        let (slot, path, hash) = (self.idle_slot(), self.good_path(), self.hash());
+        self.push(Call::Open { slot, token });
+        self.push(Call::Stage { slot, path, size, hash });
+        self.end_session(slot);
+        if self.r.chance(50) {
+            let block = (self.desk.tables.clock / EPOCH + 1) * EPOCH;
+            self.push(Call::Advance { block });
+        }
+        if self.r.chance(50) {
+            self.push(Call::Delete { account, volume });
         }
     }
 

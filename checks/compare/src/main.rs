@@ -51,9 +51,9 @@ fn in_threads<T: Send>(
     };
     std::thread::scope(|scope| {
         let running: Vec<_> = (0..threads).map(|_| scope.spawn(guarded)).collect();
-        let joined =
-            running.into_iter().map(|t| t.join().map_err(|_| "a thread stopped".to_string()));
-        joined.map(|result| result.and_then(|counted| counted)).collect()
+        let ended: Vec<_> = running.into_iter().map(|thread| thread.join()).collect();
+        let told = |_| Err("a thread panicked".to_string());
+        ended.into_iter().map(|result| result.unwrap_or_else(told)).collect()
     })
 }
 
