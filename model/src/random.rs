@@ -1411,7 +1411,7 @@ fn exchange(journal: &mut Vec<u8>, one: Range<usize>, other: Range<usize>) {
 
 /// A create with an unknown cap byte, or an attenuate with an unknown mode, at the end.
 fn unknown_cap_or_mode(r: &mut Random, journal: &mut Vec<u8>) {
-    let byte = r.between(2, 255) as u8;
+    let byte = if r.chance(50) { 2 } else { r.between(2, 255) as u8 };
     if r.chance(50) {
         journal.extend([0, 38, 0x02]);
         journal.extend([0; 32]);
