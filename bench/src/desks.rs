@@ -1,7 +1,7 @@
 //! The test of the desk that is answered 1 before all else, beside a plain one written for speed.
 
 use crate::timing::{each, once};
-use model::array_desk::{is_path_by_bytes, is_path_by_walks, ArrayDesk, IsPath, Tester};
+use model::array_desk::{is_path_by_bytes, is_path_by_walks, ArrayDesk, Tester};
 use model::desk::{Desk, RATE};
 use model::journal::write_journal;
 use model::settings::{calls, Setting, EMPTY, FULL, HALF};
@@ -11,47 +11,58 @@ use std::time::Duration;
 /// How often the desk is tested in a round.
 const TIMES: u64 = 200;
 
-/// The library replays the journal, then tests `times` times; the replay alone is taken off.
-fn library(journal: &[u8], rounds: usize) -> Duration {
-    let mut out = vec![0; pailorchard::replay_room(journal.len())];
-    let mut best_of = |times: u64| {
-        let mut work = || {
-            let passed = black_box(pailorchard::test_desk(black_box(journal), &mut out, times));
-            assert_eq!(passed, times, "the library's desk does not pass its test");
-        };
-        work();
-        (0..rounds).map(|_| once(&mut work)).min().unwrap_or_default()
-    };
-    let (with, without) = (best_of(TIMES), best_of(0));
-    with.saturating_sub(without)
+/// A desk as a journal for the library, and in arrays for the plain test.
+struct Made {
+    journal: Vec<u8>,
+    array: ArrayDesk,
 }
 
-/// The plain test of the same desk.
-fn plain(desk: &Desk, is_path: IsPath, rounds: usize) -> Duration {
-    let (array, mut tester) = (ArrayDesk::from(desk), Tester::new(is_path));
-    let mut work = || {
-        for _ in 0..TIMES {
-            assert!(black_box(tester.test(black_box(&array))), "the desk does not pass the test");
-        }
-    };
-    work();
-    (0..rounds).map(|_| once(&mut work)).min().unwrap_or_default()
-}
-
-fn show(name: &str, setting: Setting, rounds: usize) {
+fn made(setting: Setting) -> Made {
     let calls = calls(setting);
     let mut desk = Desk::fresh(RATE);
     let accepted = calls.iter().filter(|call| desk.run(call).is_ok()).count();
     assert_eq!(accepted, calls.len(), "the setting has a call that is refused");
     // Every text of these calls has at most 128 bytes, and every mode is known.
-    let journal = write_journal(&calls).unwrap();
-    let library = each(library(&journal, rounds), TIMES as usize);
-    print!("{name:<44} {library:>10.3}");
-    for is_path in [is_path_by_bytes, is_path_by_walks] {
-        let plain = each(plain(&desk, is_path, rounds), TIMES as usize);
-        print!(" {plain:>10.3} {:>8.2}", library / plain);
+    Made { journal: write_journal(&calls).unwrap(), array: ArrayDesk::from(&desk) }
+}
+
+/// The best times of TIMES tests by the library, and by the plain test in its two ways.
+fn best(desk: &Made, rounds: usize) -> [Duration; 3] {
+    let mut out = vec![0; pailorchard::replay_room(desk.journal.len())];
+    // The library replays the journal before it tests; the replay alone is taken off.
+    let mut library = |times: u64| {
+        let passed = black_box(pailorchard::test_desk(black_box(&desk.journal), &mut out, times));
+        assert_eq!(passed, times, "the library's desk does not pass its test");
+    };
+    let plain = |tester: &mut Tester| {
+        for _ in 0..TIMES {
+            let passed = black_box(tester.test(black_box(&desk.array)));
+            assert!(passed, "the desk does not pass the plain test");
+        }
+    };
+    let mut testers = [Tester::new(is_path_by_bytes), Tester::new(is_path_by_walks)];
+    let mut best = [Duration::MAX; 4];
+    for round in 0..=rounds {
+        let times = [
+            once(&mut || library(TIMES)),
+            once(&mut || library(0)),
+            once(&mut || plain(&mut testers[0])),
+            once(&mut || plain(&mut testers[1])),
+        ];
+        if round > 0 {
+            best.iter_mut().zip(times).for_each(|(best, time)| *best = time.min(*best));
+        }
     }
-    println!();
+    [best[0].saturating_sub(best[1]), best[2], best[3]]
+}
+
+fn show(name: &str, setting: Setting, rounds: usize) {
+    let [library, bytes, walks] = best(&made(setting), rounds).map(|t| each(t, TIMES as usize));
+    let ratios = (library / bytes, library / walks);
+    println!(
+        "{name:<44} {library:>10.3} {bytes:>10.3} {:>8.2} {walks:>10.3} {:>8.2}",
+        ratios.0, ratios.1
+    );
 }
 
 pub fn run(rounds: usize) {

@@ -389,6 +389,9 @@ impl Survey {
             let times = self.events.get(event).copied().unwrap_or(0);
             lines += &format!("{times:>12}  {event}\n");
         }
+        for (kind, answer, reason) in NOT_REACHED {
+            lines += &format!("no journal reaches kind {kind:02X} answer {answer}: {reason}\n");
+        }
         lines
     }
 }
