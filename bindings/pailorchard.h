@@ -4,6 +4,8 @@
  * written overlaps nothing else that is lent. No function keeps a pointer, takes memory, or prints.
  *
  * A function that answers a number answers 0, or the number of a refusal; a refusal leaves all that was lent as it was.
+ *
+ * The functions that replay a journal keep the desk on the stack: a thread that calls them needs 1 MB of it.
  */
 #ifndef PAILORCHARD_H
 #define PAILORCHARD_H

@@ -236,6 +236,18 @@ fn tests_of_the_desk() {
     assert_eq!(test_desk(&[], &mut transcript, 5), 5);
 }
 
+/// One megabyte of stack is enough for the functions that replay a journal.
+#[test]
+fn stack() {
+    let run = || {
+        let (day, mut transcript) = (day(), vec![0; replay_room(65_536)]);
+        assert!(replay(&day).is_ok() && desk_after(&day).is_ok());
+        assert_eq!(test_desk(&day, &mut transcript, 2), 2);
+    };
+    let thread = std::thread::Builder::new().stack_size(1 << 20).spawn(run);
+    thread.unwrap().join().unwrap();
+}
+
 #[test]
 fn refusals_have_sentences() {
     for number in [12, 22, 23, 24] {
