@@ -4,12 +4,15 @@
 //! so that a difference between the two points at a mistake in one of them.
 
 pub mod amount;
+pub mod array_desk;
 pub mod call;
 pub mod check;
 pub mod desk;
 pub mod journal;
+pub mod layout;
 pub mod random;
 pub mod second_list;
+pub mod settings;
 pub mod survey;
 
 /// Refusal numbers.

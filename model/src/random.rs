@@ -4,6 +4,7 @@ use crate::amount::Cap;
 use crate::call::{value, Answer, Bytes32, Call, Scope};
 use crate::desk::*;
 use crate::journal;
+use std::ops::Range;
 
 pub struct Random(u64);
 
@@ -261,6 +262,37 @@ fn any_bytes(r: &mut Random) -> Vec<u8> {
     (0..count).map(|_| any_byte(r)).collect()
 }
 
+// Paths, prefixes and names.
+
+/// A text near a path, a prefix or a name.
+pub fn path_text(r: &mut Random) -> Vec<u8> {
+    let parts = ["a", "job", ".", "..", "...", "", "~!", "A_b-9", ".a", "x y", "\u{e9}", "\u{7f}"];
+    let mut text = match r.below(8) {
+        0 => vec![b'p'; *r.pick(&[1, 63, 64, 65, 127, 128, 129, 255])],
+        1 => vec![r.below(256) as u8],
+        2 => (0..r.below(12)).map(|_| *r.pick(b"ab./.-_ ")).collect(),
+        3 => r.pick(&NAMES).as_bytes().to_vec(),
+        _ => {
+            let good = r.chance(60);
+            let part = |r: &mut Random| match good {
+                true => *r.pick(&["a", "job", "...", "~!", "A_b-9", ".a"]),
+                false => *r.pick(&parts),
+            };
+            let count = r.between(1, 5);
+            let parts: Vec<&str> = (0..count).map(|_| part(r)).collect();
+            parts.join("/").into_bytes()
+        }
+    };
+    if r.chance(25) {
+        text.push(b'/');
+    }
+    if r.chance(10) && !text.is_empty() {
+        let at = r.index(text.len());
+        text[at] = r.below(256) as u8;
+    }
+    text
+}
+
 // Histories.
 
 /// How a history is inclined.
@@ -275,6 +307,10 @@ struct Habits {
     poor: bool,
     /// Few relays are kept.
     few_relays: bool,
+    /// The entry table is filled again and again.
+    crowded: bool,
+    /// Time goes on slowly, so that relays stay and sessions are committed.
+    steady: bool,
 }
 
 /// Makes a history while running it, so that calls meet the desk as it is.
@@ -322,6 +358,8 @@ impl Maker {
             small: r.chance(60),
             poor: r.chance(30),
             few_relays: r.chance(20),
+            crowded: r.chance(15),
+            steady: r.chance(40),
         };
         Maker { r, desk: Desk::fresh(rate), habits, calls: Vec::new() }
     }
@@ -353,7 +391,12 @@ impl Maker {
     }
 
     fn act(&mut self) {
-        match self.r.below(134) {
+        if self.habits.crowded && self.r.chance(4) {
+            return self.crowd();
+        }
+        let steady = self.habits.steady && self.r.chance(85);
+        match self.r.below(136) {
+            17..=19 | 124..=133 if steady => self.whole_session(),
             0..=9 => self.step(),
             10..=16 => self.keep_alive(),
             17..=19 => self.jump(),
@@ -382,7 +425,8 @@ impl Maker {
             126 => self.clear_slots(),
             127..=128 => self.life_of_relay(),
             129 => self.lose_volume(),
-            _ => self.poor_volume(),
+            130..=133 => self.poor_volume(),
+            _ => self.edge_of_rent(),
         }
     }
 
@@ -573,10 +617,11 @@ impl Maker {
 
     fn step(&mut self) {
         let jumps = self.habits.jumps;
-        if self.r.chance(jumps / 4) {
+        if !self.habits.steady && self.r.chance(jumps / 4) {
             return self.jump();
         }
-        let block = self.desk.tables.clock + self.r.below(40);
+        let most = if self.habits.steady { 12 } else { 40 };
+        let block = self.desk.tables.clock + self.r.below(most);
         self.push(Call::Advance { block });
     }
 
@@ -944,6 +989,60 @@ impl Maker {
         }
     }
 
+    /// A volume with coins, and relays with room, whose paths fill the entry table; then puts that need no new row,
+    /// puts that need one, and puts in a row that a remove freed.
+    fn crowd(&mut self) {
+        self.clear_slots();
+        self.keep_alive();
+        for _ in 0..3 {
+            self.push(Call::Register { capacity: MOST_CAPACITY });
+        }
+        let (account, name) = (self.account(), format!("full{}", self.r.below(9)).into_bytes());
+        let answer = self.ask(Call::Create { account, name, k: 2, m: 1, cap: Cap::Unlimited });
+        let volume = value(&answer) as u32;
+        self.push(Call::Deposit { volume, coins: 1_000_000 });
+        let scope =
+            Scope { prefix: vec![], mode: 2, cap: Cap::Unlimited, from: 0, until: u64::MAX };
+        let token = value(&self.ask(Call::Grant { account, volume, scope })) as u32;
+        let free = |desk: &Desk| desk.tables.entries.iter().filter(|e| e.is_none()).count();
+        let mut next = 0;
+        while free(&self.desk) > 0 {
+            let count = free(&self.desk).min(PUTS) as u64;
+            if !self.stored(token, next..next + count) {
+                return;
+            }
+            next += count;
+        }
+        for _ in 0..self.r.between(1, 4) {
+            let at = self.r.below(next);
+            let count = self.r.between(1, 3);
+            self.stored(token, at..at + count);
+            let path = format!("c/{at}").into_bytes();
+            self.push(Call::Remove { account, volume, path });
+            self.stored(token, next..next + 1);
+            next += 1;
+        }
+        if self.r.chance(50) {
+            self.push(Call::Delete { account, volume });
+        }
+    }
+
+    /// A session of small puts at numbered paths, and whether it was committed.
+    fn stored(&mut self, token: u32, paths: Range<u64>) -> bool {
+        let slot = self.idle_slot();
+        self.push(Call::Open { slot, token });
+        for path in paths {
+            let (path, size, hash) =
+                (format!("c/{path}").into_bytes(), self.r.below(30), self.hash());
+            self.push(Call::Stage { slot, path, size, hash });
+        }
+        let committed = self.ask(Call::Commit { slot }).is_ok();
+        if !committed {
+            self.push(Call::Abandon { slot });
+        }
+        committed
+    }
+
     /// One kind of row until none is free.
     fn fill_table(&mut self) {
         let kind = self.r.below(3);
@@ -1059,6 +1158,37 @@ impl Maker {
         }
     }
 
+    /// A volume with one epoch's rent, or one coin more, and an object whose effective size is rounded up past that rent,
+    /// or just not.
+    fn edge_of_rent(&mut self) {
+        self.refill();
+        let (k, m) = *self.r.pick(&[(3, 1), (3, 2), (3, 3), (4, 2), (5, 1)]);
+        let (rent, account) = (self.r.between(1, 40), self.account());
+        let name = format!("edge{}", self.r.below(4)).into_bytes();
+        let answer = self.ask(Call::Create { account, name, k, m, cap: Cap::Unlimited });
+        let volume = value(&answer) as u32;
+        let coins = rent + self.r.below(2);
+        self.push(Call::Deposit { volume, coins });
+        let scope =
+            Scope { prefix: vec![], mode: 2, cap: Cap::Unlimited, from: 0, until: u64::MAX };
+        let token = value(&self.ask(Call::Grant { account, volume, scope })) as u32;
+        // The largest effective size at this rent, and the smallest raw size that is above it.
+        let largest = (rent << 20) / u64::from(self.desk.tables.rate.max(1));
+        let above = largest * u64::from(k) / u64::from(k + m) + 1;
+        let size = above - u64::from(self.r.chance(40));
+        let (slot, path, hash) = (self.idle_slot(), self.good_path(), self.hash());
+        self.push(Call::Open { slot, token });
+        self.push(Call::Stage { slot, path, size, hash });
+        self.end_session(slot);
+        if self.r.chance(50) {
+            let block = (self.desk.tables.clock / EPOCH + 1) * EPOCH;
+            self.push(Call::Advance { block });
+        }
+        if self.r.chance(50) {
+            self.push(Call::Delete { account, volume });
+        }
+    }
+
     /// Deletes a volume, looks, and brings it back or lets it be collected.
     fn lose_volume(&mut self) {
         let volume = self.volume();
@@ -1082,15 +1212,35 @@ impl Maker {
 
 /// A whole journal of about `most` calls at the program's rate, cut to the longest length.
 pub fn whole_journal(seed: u64, most: usize) -> Vec<u8> {
+    cut_journal(seed, most, journal::MOST)
+}
+
+/// The records of a history that fit in a journal of `longest` bytes.
+fn cut_journal(seed: u64, most: usize, longest: usize) -> Vec<u8> {
     let mut journal = vec![journal::FORMAT];
     for call in history(seed, RATE, most) {
         // Every text made here has at most 255 bytes and every mode is known.
         let record = journal::write_record(&call, usize::MAX).unwrap();
-        if journal.len() + record.len() <= journal::MOST {
+        if journal.len() + record.len() <= longest {
             journal.extend(record);
         }
     }
     journal
+}
+
+/// A whole journal whose length goes by the seed: short, of a thousand calls, nearly as long as a journal may be,
+/// or exactly that long.
+pub fn journal_for(seed: u64) -> Vec<u8> {
+    match seed % 8 {
+        0 => whole_journal(seed, 60),
+        1..=3 => whole_journal(seed, 1_000),
+        4..=6 => whole_journal(seed, 4_000),
+        _ => {
+            let mut journal = cut_journal(seed, 4_000, journal::MOST - 40);
+            pad_to(&mut journal, journal::MOST);
+            journal
+        }
+    }
 }
 
 /// A journal that is whole, or damaged in one place.
@@ -1101,43 +1251,6 @@ pub fn any_journal(seed: u64, most: usize) -> Vec<u8> {
         return journal;
     }
     damaged_journal(&mut r, journal)
-}
-
-/// The places where records begin.
-fn record_starts(journal: &[u8]) -> Vec<usize> {
-    let next = |at: &usize| {
-        let length = u16::from_be_bytes([journal[*at], journal[*at + 1]]);
-        Some(*at + 2 + usize::from(length)).filter(|next| *next < journal.len())
-    };
-    std::iter::successors(Some(1), next).collect()
-}
-
-pub fn damaged_journal(r: &mut Random, whole: Vec<u8>) -> Vec<u8> {
-    let starts = record_starts(&whole);
-    let start = *r.pick(&starts);
-    let mut journal = whole;
-    let at = r.index(journal.len());
-    match r.below(16) {
-        0 => journal[at] ^= 1 << r.below(8),
-        1 => journal[at] = r.below(256) as u8,
-        2 => journal.truncate(at),
-        3 => journal.insert(at, r.below(256) as u8),
-        4 => {
-            journal.remove(at);
-        }
-        5 => journal[0] = r.below(256) as u8,
-        6 => journal.clear(),
-        7 => journal.push(r.below(256) as u8),
-        8 => journal.extend([0, 0]),
-        9 => journal[start + 1] = journal[start + 1].wrapping_add(1),
-        10 => journal[start + 1] = journal[start + 1].wrapping_sub(1),
-        11 => journal[start] = r.below(256) as u8,
-        12 => journal[start + 2] = *r.pick(&[0, 0x11, 0x12, 0xFF]),
-        13 => pad_to(&mut journal, journal::MOST + r.below(2) as usize),
-        14 => unknown_cap_or_mode(r, &mut journal),
-        _ => journal.truncate(start + r.index(3)),
-    }
-    journal
 }
 
 /// Records of abandon (4 bytes) and heartbeat (7 bytes) up to a length.
@@ -1153,9 +1266,152 @@ fn pad_to(journal: &mut Vec<u8>, length: usize) {
     }
 }
 
+/// Where the whole records lie, with their lengths, up to the first that does not fit.
+pub fn records(journal: &[u8]) -> Vec<Range<usize>> {
+    let next = |start: usize| {
+        let length = journal.get(start..start + 2)?;
+        let end = start + 2 + usize::from(u16::from_be_bytes([length[0], length[1]]));
+        (end <= journal.len()).then_some(start..end)
+    };
+    std::iter::successors(next(1), |record| next(record.end)).collect()
+}
+
+/// A journal with one or two kinds of damage.
+pub fn damaged_journal(r: &mut Random, whole: Vec<u8>) -> Vec<u8> {
+    let mut journal = whole;
+    damage(r, &mut journal);
+    if r.chance(15) {
+        damage(r, &mut journal);
+    }
+    journal
+}
+
+/// What `damage` does, by the number that it gives.
+pub const DAMAGES: [&str; 24] = [
+    "bit changed",
+    "byte changed",
+    "cut anywhere",
+    "byte put in",
+    "byte taken out",
+    "version changed",
+    "emptied",
+    "byte at the end",
+    "record of length 0 at the end",
+    "length one more",
+    "length one less",
+    "length changed",
+    "kind changed",
+    "made longer than a journal",
+    "unknown cap byte or mode at the end",
+    "cut at a record's start or in its length",
+    "two records joined under one length",
+    "record repeated",
+    "record taken out",
+    "two records exchanged",
+    "record at the front",
+    "record cut, its length too",
+    "record made longer, its length too",
+    "bytes of one record in another",
+];
+
+/// Damages a journal in one place. Gives the place in DAMAGES.
+pub fn damage(r: &mut Random, journal: &mut Vec<u8>) -> usize {
+    let found = records(journal);
+    if journal.len() < 2 || found.is_empty() {
+        journal.push(r.below(256) as u8);
+        return 7;
+    }
+    let at = r.index(journal.len());
+    let (one, other) = (r.pick(&found).clone(), r.pick(&found).clone());
+    let start = one.start;
+    let kind = r.index(DAMAGES.len());
+    match kind {
+        0 => journal[at] ^= 1 << r.below(8),
+        1 => journal[at] = r.below(256) as u8,
+        2 => journal.truncate(at),
+        3 => journal.insert(at, r.below(256) as u8),
+        4 => {
+            journal.remove(at);
+        }
+        5 => journal[0] = r.below(256) as u8,
+        6 => journal.clear(),
+        7 => journal.push(r.below(256) as u8),
+        8 => journal.extend([0, 0]),
+        9 => journal[start + 1] = journal[start + 1].wrapping_add(1),
+        10 => journal[start + 1] = journal[start + 1].wrapping_sub(1),
+        11 => journal[start + r.index(2)] = r.below(256) as u8,
+        12 => {
+            if let Some(byte) = journal.get_mut(start + 2) {
+                *byte = if r.chance(50) { *r.pick(&[0, 0x11, 0xFF]) } else { r.below(17) as u8 };
+            }
+        }
+        13 => journal.resize(journal::MOST + 1 + r.index(3), r.below(256) as u8),
+        14 => unknown_cap_or_mode(r, journal),
+        15 => journal.truncate(start + r.index(3)),
+        16 => join_records(journal, start),
+        17 => {
+            let copy = journal[one].to_vec();
+            journal.splice(other.start..other.start, copy);
+        }
+        18 => {
+            journal.drain(one);
+        }
+        19 => exchange(journal, one, other),
+        20 => {
+            let copy = journal[one.clone()].to_vec();
+            journal.drain(one);
+            journal.splice(1..1, copy);
+        }
+        21 => resize_record(journal, one, r.below(4) as usize, &[]),
+        22 => {
+            let more = vec![r.below(256) as u8; r.between(1, 3) as usize];
+            resize_record(journal, one, usize::MAX, &more);
+        }
+        _ => {
+            let bytes = journal[other].to_vec();
+            let count = bytes.len().min(one.len()) - 2;
+            let from = r.index(count + 1);
+            journal[start + 2 + from..start + 2 + count]
+                .copy_from_slice(&bytes[2 + from..][..count - from]);
+        }
+    }
+    kind
+}
+
+/// Takes the length before the record after this one away, and counts its bytes to this one.
+fn join_records(journal: &mut Vec<u8>, start: usize) {
+    let found = records(&journal[..]);
+    let mut after = found.iter().skip_while(|record| record.start != start);
+    if let (Some(one), Some(next)) = (after.next().cloned(), after.next().cloned()) {
+        journal.drain(next.start..next.start + 2);
+        set_length(journal, start, one.len() + next.len() - 4);
+    }
+}
+
+/// Keeps at most `kept` bytes of a record after its length, adds `more`, and sets the length by it.
+fn resize_record(journal: &mut Vec<u8>, record: Range<usize>, kept: usize, more: &[u8]) {
+    let end = record.end.min((record.start + 2).saturating_add(kept));
+    journal.splice(end..record.end, more.iter().copied());
+    set_length(journal, record.start, end - record.start - 2 + more.len());
+}
+
+fn set_length(journal: &mut [u8], start: usize, length: usize) {
+    journal[start..start + 2].copy_from_slice(&(length as u16).to_be_bytes());
+}
+
+fn exchange(journal: &mut Vec<u8>, one: Range<usize>, other: Range<usize>) {
+    let (first, second) = if one.start <= other.start { (one, other) } else { (other, one) };
+    if first.start == second.start {
+        return;
+    }
+    let (front, back) = (journal[first.clone()].to_vec(), journal[second.clone()].to_vec());
+    journal.splice(second, front);
+    journal.splice(first, back);
+}
+
 /// A create with an unknown cap byte, or an attenuate with an unknown mode, at the end.
 fn unknown_cap_or_mode(r: &mut Random, journal: &mut Vec<u8>) {
-    let byte = r.between(2, 255) as u8;
+    let byte = if r.chance(50) { 2 } else { r.between(2, 255) as u8 };
     if r.chance(50) {
         journal.extend([0, 38, 0x02]);
         journal.extend([0; 32]);

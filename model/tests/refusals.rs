@@ -623,3 +623,28 @@ fn mode_above_two_is_bad() {
     case.refuses(call(3), 1);
     case.refuses(call(255), 1);
 }
+
+// Desks that no journal reaches.
+
+/// Advance takes a relay at health 0 away, so only a clock set by hand leaves it in the table.
+#[test]
+fn heartbeat_at_health_0() {
+    let mut case = Case::settled();
+    case.0.tables.clock = 99;
+    case.gives(heartbeat(1), 0);
+    case.0.tables.clock = 199;
+    case.refuses(heartbeat(1), 26);
+    case.refuses(heartbeat(2), 26);
+    assert!(case.0.tables.relay(1).is_some());
+}
+
+/// Delete drops the tokens, so only a status set by hand leaves them.
+#[test]
+fn tokens_of_a_deleted_volume() {
+    let mut case = Case::settled();
+    case.accepts(open(0, 1));
+    case.0.tables.volume_mut_for_test(1).status = Status::Deleted(0);
+    case.refuses(open(1, 1), 8);
+    case.refuses(commit(0), 8);
+    case.refuses(look(1, "a"), 15);
+}

@@ -16,16 +16,11 @@ fn main() {
         }
     }
     println!("{} histories, {} calls", survey.histories, survey.calls);
-    let mut kind = 0;
-    for ((k, answer), times) in &survey.answers {
-        if *k != kind {
-            kind = *k;
-            print!("\nkind {kind:02X}:");
-        }
-        print!(" {answer}: {times};");
-    }
-    println!("\n");
-    survey.events.iter().for_each(|(event, times)| println!("{event}: {times}"));
+    print!("{}", survey.table());
     println!("dropped by the second lists of demand 3: {:?}", survey.dropped);
-    println!("not met: {:?}", survey.not_met());
+    let not_met = survey.not_met();
+    if !not_met.is_empty() {
+        println!("not met: {}", not_met.join("; "));
+        std::process::exit(1);
+    }
 }
