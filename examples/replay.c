@@ -1,7 +1,7 @@
 /* Replays the journal in the file named by the one argument and prints its transcript, as target/bin/replay does.
  *
- *     rt staticlib library
- *     cc -std=c11 -Wall -Ibindings examples/replay.c target/staticlib/liblibrary.a -o target/replay_c
+ *     rt staticlib pailorchard
+ *     cc -std=c11 -Wall -Ibindings examples/replay.c target/staticlib/libpailorchard.a -o target/replay_c
  *     target/replay_c examples/day.journal
  */
 #include <stdio.h>

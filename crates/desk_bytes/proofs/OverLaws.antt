@@ -7,54 +7,14 @@ use borrow.Author.Needs.{needs}
 use lib.ListN.{length, take, drop, set, length-append, length-set, length-drop, take-append-drop}
 use lib.Seq.{append-snoc, take-set-le, set-split, drop-at, take-at, drop-drop, length-take-le, take-length}
 use Rattle.lists.specs.ByteLoopLaws.{FillLoop, fill-end}
+use Rattle.lists.specs.OverLaws.{over-none, over-last, length-over, over-over}
 use Rattle.amount.specs.declared.Cap.{Cap}
 use Rattle.amount.specs.declared.Cap.the-variants.{Unlimited, Bytes}
 use Rattle.journal.specs.Numbers.{bytesOf}
 use Rattle.journal.specs.NumberLaws.{length-bytesOf}
-use Rattle.journal.specs.Writes.{over}
+use Rattle.lists.specs.Bytes.{over}
 use Rattle.desk_bytes.specs.Layout.{capBytes}
 use Rattle.desk_bytes.specs.Written.{Wrote}
-
--- nothing written
-pub over-none : (at : ℕ) (buf : List ℕ) → over at [] buf ≡ buf
-over-none at buf =
-    let e : at + 0 ≡ at = omega arith in
-    ap (λ (m : List ℕ). m ++ drop (at + 0) buf) (append-nil (take at buf)) ∙ ap (λ (k : ℕ). take at buf ++ drop k buf) e ∙ take-append-drop at buf
-
--- the last byte, and then the others
-over-last : (at : ℕ) (b : List ℕ) (x : ℕ) (buf : List ℕ) → at + length b < length buf
-    → over at b (set buf (at + length b) x) ≡ over at (b ++ (x ∷ [])) buf
-over-last at b x buf h =
-    let p = at + length b in
-    let t : take at (set buf p x) ≡ take at buf = take-set-le at buf p x (omega arith) in
-    let d : drop p (set buf p x) ≡ x ∷ drop (suc p) buf =
-    ap (drop p) (set-split buf p x h) ∙ drop-at (take p buf) (x ∷ drop (suc p) buf) p (length-take-le p buf (omega arith)) in
-    let n : at + length (b ++ (x ∷ [])) ≡ suc p = omega (arith, length-append b (x ∷ [])) in
-    ap (λ (m : List ℕ). m ++ b ++ drop p (set buf p x)) t ∙ ap (λ (m : List ℕ). take at buf ++ b ++ m) d ∙ sym (append-snoc (take at buf ++ b) x (drop (suc p) buf))
-    ∙ ap (λ (m : List ℕ). m ++ drop (suc p) buf) (append-assoc (take at buf) b (x ∷ []))
-    ∙ ap (λ (k : ℕ). take at buf ++ (b ++ (x ∷ [])) ++ drop k buf) (sym n)
-
-head-length : (at : ℕ) (a buf : List ℕ) → at ≤ length buf → length (take at buf ++ a) ≡ at + length a
-head-length at a buf h = length-append (take at buf) a ∙ ap (λ (k : ℕ). k + length a) (length-take-le at buf h)
-
--- a buffer keeps its length
-pub length-over : (at : ℕ) (b buf : List ℕ) → at + length b ≤ length buf → length (over at b buf) ≡ length buf
-length-over at b buf h =
-    length-append (take at buf ++ b) (drop (at + length b) buf)
-    ∙ omega (arith, head-length at b buf (omega arith), length-drop (at + length b) buf)
-
--- two parts, one after the other
-over-over : (at : ℕ) (a b buf : List ℕ) → at + length a ≤ length buf → over (at + length a) b (over at a buf) ≡ over at (a ++ b) buf
-over-over at a b buf h =
-    let p = at + length a in
-    let w = over at a buf in
-    let l : length (take at buf ++ a) ≡ p = head-length at a buf (omega arith) in
-    let t : take p w ≡ take at buf ++ a = take-at (take at buf ++ a) (drop p buf) p l in
-    let d : drop (p + length b) w ≡ drop (p + length b) buf =
-    sym (drop-drop (length b) p w) ∙ ap (drop (length b)) (drop-at (take at buf ++ a) (drop p buf) p l) ∙ drop-drop (length b) p buf in
-    let n : p + length b ≡ at + length (a ++ b) = omega (arith, length-append a b) in
-    ap (λ (m : List ℕ). m ++ b ++ drop (p + length b) w) t ∙ ap (λ (m : List ℕ). take at buf ++ a ++ b ++ m) d
-    ∙ ap (λ (m : List ℕ). m ++ drop (p + length b) buf) (append-assoc (take at buf) a b) ∙ ap (λ (k : ℕ). take at buf ++ (a ++ b) ++ drop k buf) n
 
 -- a part after the parts before it: m is the buffer after those, which end at p
 pub two-parts : (at : ℕ) (a b out : List ℕ) (p : ℕ) (m : List ℕ) (r : ℕ) (out′ : List ℕ) → Wrote p b m r out′ → Wrote at a out p m

@@ -24,7 +24,7 @@ use Rattle.journal.specs.declared.Record.{Record}
 use Rattle.journal.specs.Records.{v01}
 use Rattle.journal.specs.Places.{callAt}
 use Rattle.journal.specs.Journal.{Ending, end, stop, Contents, stopped, ended, after, records}
-use Rattle.journal.specs.Writes.{over}
+use Rattle.lists.specs.Bytes.{over}
 use Rattle.transcripts.specs.declared.Group.{Group}
 use Rattle.transcripts.specs.declared.Group.the-variants as group
 use Rattle.transcripts.specs.declared.Item.{Item}

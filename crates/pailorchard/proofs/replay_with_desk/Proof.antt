@@ -1,8 +1,8 @@
 -- `replay_with_desk` meets its contract. Assumes nothing.
 use borrow.Author.Needs.{needs}
-use Rattle.library.proofs.DeskAfterLaws.{without-desk, no-desk, a-desk}
-use Rattle.library.proofs.replay_with_desk.Statement.{statement}
-use Rattle.library.proofs.replay_with_desk.Tie as tie
+use Rattle.pailorchard.proofs.DeskAfterLaws.{without-desk, no-desk, a-desk}
+use Rattle.pailorchard.proofs.replay_with_desk.Statement.{statement}
+use Rattle.pailorchard.proofs.replay_with_desk.Tie as tie
 
 pub replay-with-desk-spec : {M : Type 1} → statement M
 replay-with-desk-spec =

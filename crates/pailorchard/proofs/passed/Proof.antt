@@ -1,9 +1,9 @@
 -- `passed` meets its contract: the desk is the same at each turn. Assumes nothing.
 use Prim.Native.Nat.{_-_}
 use borrow.Author.Needs.{needs}
-use Rattle.library.proofs.TestLoop.{TestLoop, tests-start, tests-fail, tests-pass, tests-end}
-use Rattle.library.proofs.passed.Statement.{statement}
-use Rattle.library.proofs.passed.Tie as tie
+use Rattle.pailorchard.proofs.TestLoop.{TestLoop, tests-start, tests-fail, tests-pass, tests-end}
+use Rattle.pailorchard.proofs.passed.Statement.{statement}
+use Rattle.pailorchard.proofs.passed.Tie as tie
 
 pub passed-spec : {M : Type 1} → statement M
 passed-spec =

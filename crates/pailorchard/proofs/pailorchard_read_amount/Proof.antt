@@ -1,8 +1,8 @@
 -- `pailorchard_read_amount` meets its contract: each variant that was read, in its parts. Assumes nothing.
 use borrow.Author.Needs.{needs}
-use Rattle.library.proofs.ResultLaws.{read-number, no-limit, no-limit-bytes, a-limit, a-limit-bytes, refused-number, refused-limit, refused-bytes}
-use Rattle.library.proofs.pailorchard_read_amount.Statement.{statement}
-use Rattle.library.proofs.pailorchard_read_amount.Tie as tie
+use Rattle.pailorchard.proofs.ResultLaws.{read-number, no-limit, no-limit-bytes, a-limit, a-limit-bytes, refused-number, refused-limit, refused-bytes}
+use Rattle.pailorchard.proofs.pailorchard_read_amount.Statement.{statement}
+use Rattle.pailorchard.proofs.pailorchard_read_amount.Tie as tie
 
 pub pailorchard-read-amount-spec : {M : Type 1} → statement M
 pailorchard-read-amount-spec =

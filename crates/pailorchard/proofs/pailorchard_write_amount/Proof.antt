@@ -1,8 +1,8 @@
 -- `pailorchard_write_amount` meets its contract: what writing the cap answers, in its parts. Assumes nothing.
 use borrow.Author.Needs.{needs}
-use Rattle.library.proofs.ResultLaws.{same-buffer, written-number, written-length, unwritten-number, unwritten-length}
-use Rattle.library.proofs.pailorchard_write_amount.Statement.{statement}
-use Rattle.library.proofs.pailorchard_write_amount.Tie as tie
+use Rattle.pailorchard.proofs.ResultLaws.{same-buffer, written-number, written-length, unwritten-number, unwritten-length}
+use Rattle.pailorchard.proofs.pailorchard_write_amount.Statement.{statement}
+use Rattle.pailorchard.proofs.pailorchard_write_amount.Tie as tie
 
 pub pailorchard-write-amount-spec : {M : Type 1} → statement M
 pailorchard-write-amount-spec =

@@ -18,7 +18,7 @@ use Rattle.transcripts.specs.Replay as replays
 use Rattle.transcripts.specs.Replay.{answerOf, bufferOf, deskAfter, replayedOf}
 use Rattle.desk_bytes.specs.Layout.{deskBytes, deskLength}
 use Rattle.desk_bytes.specs.Writing as desks
-use Rattle.library.specs.DeskAfter.{tooShort, deskNumber, transcriptLeft, deskLeft, lengthLeft, deskWhere}
+use Rattle.pailorchard.specs.DeskAfter.{tooShort, deskNumber, transcriptLeft, deskLeft, lengthLeft, deskWhere}
 
 -- ---- a replay without its desk, and its desk
 

@@ -15,7 +15,7 @@ use Rattle.amount.specs.Amount.{readNumber}
 use Rattle.amount.specs.Writing.{writtenOf, writtenNumber, bufferAfter}
 use Rattle.rules.specs.Sound.{sound}
 use Rattle.transcripts.specs.declared.Replayed.{Replayed}
-use Rattle.library.specs.Results.{capOf, limitedAfter, bytesAfter, lengthAfter, writtenAfter, testsPassed}
+use Rattle.pailorchard.specs.Results.{capOf, limitedAfter, bytesAfter, lengthAfter, writtenAfter, testsPassed}
 
 pub cap-bytes : {limited : Bool} (n : ℕ) → limited ≡ true → Bytes n ≡ capOf limited n
 unfolding capOf

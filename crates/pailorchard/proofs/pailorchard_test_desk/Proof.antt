@@ -1,8 +1,8 @@
 -- `pailorchard_test_desk` meets its contract. Assumes nothing.
 use borrow.Author.Needs.{needs}
-use Rattle.library.proofs.ResultLaws.{tested, untested}
-use Rattle.library.proofs.pailorchard_test_desk.Statement.{statement}
-use Rattle.library.proofs.pailorchard_test_desk.Tie as tie
+use Rattle.pailorchard.proofs.ResultLaws.{tested, untested}
+use Rattle.pailorchard.proofs.pailorchard_test_desk.Statement.{statement}
+use Rattle.pailorchard.proofs.pailorchard_test_desk.Tie as tie
 
 pub pailorchard-test-desk-spec : {M : Type 1} → statement M
 pailorchard-test-desk-spec =
