@@ -124,8 +124,10 @@ fn names_differ(rows: [Volume; 8]) -> bool
     let mut i: usize = 0;
     while i < 8 {
         let v = rows[i];
-        if name_again(rows, v, i + 1) {
-            return false;
+        if v.no.0 != 0 {
+            if name_again(rows, v, i + 1) {
+                return false;
+            }
         }
         i += 1;
     }

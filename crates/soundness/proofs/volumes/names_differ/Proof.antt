@@ -1,6 +1,8 @@
+use mathlib.Core.Logic.{⊎-elim}
 use Prim.Native.Nat.{_-_}
 use Rattle.rules.specs.Sound.{sameName}
 use Rattle.lists.specs.LoopLaws.{ClashLoop, clashes}
+use Rattle.soundness.proofs.Told.{name-skipped}
 use Rattle.soundness.proofs.volumes.names_differ.Statement.{statement}
 use Rattle.soundness.proofs.volumes.names_differ.Tie as tie
 
@@ -18,5 +20,5 @@ names-differ-spec =
     (λ c. search clashes)
     (λ c. search clashes)
     (λ c. search clashes)
-    (λ c. search clashes)
+    (λ c. ⊎-elim (λ w. search clashes) (λ w. search name-skipped) (c .if1 .came))
     (λ c. search clashes))
