@@ -5,7 +5,7 @@ use mathlib.Core.List.{List}
 use Prim.Native.Nat.{ℕ, _+_, _<_, _≤_}
 use borrow.Author.Tests.{ne-eqb, le-leb, not-false}
 use lib.Dec.{leb}
-use lib.ListN.{getD}
+use lib.ListN.{drop, getD}
 use Rattle.text.specs.Text.{holds, isPrefix}
 use Rattle.rules.specs.Limits.{deepest, usedLimit}
 use Rattle.rules.specs.Scope.{capFits, depth}
@@ -17,7 +17,8 @@ use Rattle.rules.specs.declared.RelayNo.{RelayNo}
 use Rattle.rules.specs.declared.VolumeNo.{VolumeNo}
 use Rattle.rules.specs.Tables.{isVolume}
 use Rattle.rows.specs.Blank.{blankVolume, blankRelay}
-use Rattle.lists.specs.LoopLaws.{AllLoop, all-step}
+use Rattle.lists.specs.LoopLaws.{AllLoop, all-step, ClashLoop, clash-step}
+use Rattle.lists.specs.TestLaws.{at-none}
 use Rattle.rules.specs.declared.Placement.{Placement}
 use Rattle.rules.specs.declared.Volume.{Volume}
 use Rattle.rules.specs.declared.Token.{Token}
@@ -26,7 +27,7 @@ use Rattle.rules.specs.declared.Relay.{Relay}
 use Rattle.rules.specs.declared.Session.{Session}
 use Rattle.rules.specs.declared.Status.{Status}
 use Rattle.rules.specs.declared.Tables.{Tables}
-use Rattle.rules.specs.Sound.{soundGrace, soundVolumes, soundEntries, soundVolume, soundToken, soundEntry, soundRelay, soundSession, soundIn, parentThere, relayGiven, soundPlacement, isGiven, volumeThere}
+use Rattle.rules.specs.Sound.{sameName, soundGrace, soundVolumes, soundEntries, soundVolume, soundToken, soundEntry, soundRelay, soundSession, soundIn, parentThere, relayGiven, soundPlacement, isGiven, volumeThere}
 
 module _ (t : Tables) (b : Bool) where
   pub volume-told : (v : Volume) → ((u : Tables) → u .«last_volume» ≡ t .«last_volume» → u .clock ≡ t .clock → b ≡ soundVolume u v) → b ≡ soundVolume t v
@@ -78,6 +79,17 @@ pub relay-skipped : (t : Tables) (rows : List Relay) (i : ℕ) → AllLoop (soun
     → AllLoop (soundRelay t) rows 32 (i + 1)
 unfolding soundRelay
 relay-skipped t rows i h k e = all-step blankRelay (soundRelay t) rows 32 i true h k (sym (rw e)) refl
+
+-- a free volume has no name that another could have
+free-name : (a b : Volume) → a .no .0 ≡ 0 → sameName a b ≡ false
+unfolding sameName
+free-name a b e = rw e
+
+pub name-skipped : (rows : List Volume) (i : ℕ) → ClashLoop sameName rows 8 i → i < 8 → getD rows i blankVolume .no .0 ≡ 0 → ClashLoop sameName rows 8 (i + 1)
+name-skipped rows i h k e =
+    clash-step blankVolume sameName rows 8 i false h k
+    (sym (at-none (sameName (getD rows i blankVolume)) (drop (i + 1) rows) blankVolume (λ j l. free-name (getD rows i blankVolume) (getD (drop (i + 1) rows) j blankVolume) e)))
+    refl
 
 -- the grace count of a status that is known
 pub by-status : (s k : Status) (x : Bool) (grace : ℕ) → s ≡ k → x ≡ soundGrace k grace → x ≡ soundGrace s grace

@@ -4,16 +4,16 @@
 ghost use mathlib.Core.Path.{_≡_};
 ghost use Rattle.rules.specs.Sound.{sound};
 
-mod entries;
+mod entry_test;
 mod numbers;
 mod path_keys;
 mod placements;
-mod relays;
-mod sessions;
+mod relay_test;
+mod session_test;
 mod shards;
 mod tables;
-mod tokens;
-mod volumes;
+mod token_test;
+mod volume_test;
 
 use rules::Desk;
 
@@ -26,5 +26,5 @@ pub fn is_sound(d: Desk) -> bool
         return false;
     }
     let slots = d.sessions;
-    sessions::all_sessions(t, slots)
+    session_test::all_sessions(t, slots)
 }

@@ -1,10 +1,10 @@
 // The tables: the counts, then each table in turn.
 ghost use mathlib.Core.Path.{_≡_};
 ghost use Rattle.rules.specs.Sound.{soundCounts, soundTables};
-use super::entries::sound_entries;
-use super::relays::sound_relays;
-use super::tokens::sound_tokens;
-use super::volumes::sound_volumes;
+use super::entry_test::sound_entries;
+use super::relay_test::sound_relays;
+use super::token_test::sound_tokens;
+use super::volume_test::sound_volumes;
 use rules::Tables;
 
 // The clock up to 2^40, deposits up to 10^18, and the last numbers up to 65,535.
