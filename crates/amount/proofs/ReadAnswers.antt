@@ -19,25 +19,11 @@ use Rattle.amount.specs.declared.ReadAmount.{ReadAmount}
 use Rattle.amount.specs.declared.ReadAmount.the-variants.{Refused}
 use Rattle.amount.specs.declared.UnitFound.{UnitFound}
 use Rattle.amount.specs.declared.UnitFound.the-variants.{Is, Nothing}
-use Rattle.amount.specs.Amount.{sizeOf, counted, isMark, unitNamed, unitAfter, afterWhole, parse, amountParsed}
-use Rattle.amount.specs.AmountLaws.{unit-none, unit-other, unit-on}
+use Rattle.amount.specs.Amount.{sizeOf, counted, isMark, unitAfter, afterWhole, parse, amountParsed}
 use Rattle.amount.specs.Digits.{leading, following, number}
 use Rattle.amount.specs.DigitLaws.{length-leading}
 use Rattle.amount.specs.ReadLaws.{Run, run-found, run-most, run-below, parse-outside, parse-zero, parse-on, nothing-after, no-mark, mark-on, no-fraction, fraction-on}
 use Rattle.amount.specs.Steps.{runOf, sized, afterMark}
-
--- the unit after the digits
-module _ (t : List ℕ) where
-  pub end-reached : length t ≡ 0 → Nothing ≡ unitAfter t
-  end-reached e = sym (unit-none t e)
-
-  pub no-space : (getD t 0 0 ≡ 32 → ⊥) → Nothing ≡ unitAfter t
-  no-space e = sym (unit-other t e)
-
-  pub after-space : (f : UnitFound) → getD t 0 0 ≡ 32 → f ≡ unitNamed (take (length t - 1) (drop 1 t)) → f ≡ unitAfter t
-  after-space f e h = h ∙ rw (part-to-end t 1) (sym (unit-on t e))
-
-pub ruleset units = (end-reached, no-space, after-space)
 
 -- f is the unit that was found
 module _ (f u : UnitFound) (n places : ℕ) (e : f ≡ u) where

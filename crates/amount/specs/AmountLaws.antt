@@ -1,18 +1,20 @@
 -- Laws of the definitions in Amount.antt: the units, and the division in two parts, whole and fraction.
 use mathlib.Core.Path.{_≡_, refl, sym, _∙_}
+use mathlib.Core.Bool.{Bool, true, false, _&&_, cond}
 use mathlib.Core.List.{List, [], _∷_}
 use Prim.Native.Nat.{ℕ, _+_, _*_, _/_, _%_, _^_, _<_, _≤_}
 use native.Mathlib.Nat.{add-mul, mul-comm, mul-right-comm, mul-le-mul, mul-add-div-right, mul-add-mod-self-right, lt-of-lt-of-le, lt-of-le-of-lt, le-add-right, pow-le-pow-right, mul-lt-mul-of-pos-right, div-lt-iff-lt-mul, one-le-pow, le-div-iff-mul-le}
 use native.Mathlib.Omega.{arith}
 use borrow.Author.Tests.{eq-eqb, ne-eqb, le-leb, lt-leb}
-use lib.Dec.{lit<, lit≤}
-use lib.ListN.{length, drop, getD}
+use lib.Dec.{eqb, lit<, lit≤}
+use Rattle.lists.specs.Bytes.{sameBytes}
 use Rattle.amount.specs.declared.ByteUnit.{ByteUnit}
 use Rattle.amount.specs.declared.ByteUnit.the-variants.{B, KiB, MiB, GiB}
 use Rattle.amount.specs.declared.Cap.the-variants.{Bytes}
 use Rattle.amount.specs.declared.ReadAmount.the-variants.{Read, Refused}
-use Rattle.amount.specs.declared.UnitFound.the-variants.{Nothing}
-use Rattle.amount.specs.Amount.{limit, notWhole, tooLarge, sizeOf, unitNamed, unitAfter, counted}
+use Rattle.amount.specs.declared.UnitFound.{UnitFound}
+use Rattle.amount.specs.declared.UnitFound.the-variants.{Is, Nothing}
+use Rattle.amount.specs.Amount.{limit, notWhole, tooLarge, space, sizeOf, nameOf, unitNamed, unitAfter, counted}
 
 -- A unit has from 1 to 2^30 bytes.
 pub size-pos : (u : ByteUnit) → 0 < sizeOf u
@@ -30,21 +32,19 @@ size-most GiB = lit≤ tt
 pub power-pos : (k : ℕ) → 0 < 10 ^ k
 power-pos k = one-le-pow k 10 (lit< tt)
 
--- One step of reading the unit.
-pub unit-none : (t : List ℕ) → length t ≡ 0 → unitAfter t ≡ Nothing
-unfolding unitAfter
-unit-none [] e = refl
-unit-none (b ∷ t) e = absurd (omega arith)
-
-pub unit-other : (t : List ℕ) → (getD t 0 0 ≡ 32 → ⊥) → unitAfter t ≡ Nothing
-unfolding unitAfter
-unit-other [] e = refl
-unit-other (b ∷ t) e = rw (ne-eqb b 32 e)
-
-pub unit-on : (t : List ℕ) → getD t 0 0 ≡ 32 → unitAfter t ≡ unitNamed (drop 1 t)
-unfolding unitAfter
-unit-on [] e = absurd (omega arith)
-unit-on (b ∷ t) e = rw (eq-eqb b 32 e)
+-- The unit by all that stands after the number: a space and a name.
+pub unit-compared : (t : List ℕ) (r : UnitFound)
+    → r ≡ cond (sameBytes t (space ∷ nameOf B)) (Is B) (cond (sameBytes t (space ∷ nameOf KiB)) (Is KiB) (cond (sameBytes t (space ∷ nameOf MiB)) (Is MiB) (cond (sameBytes t (space ∷ nameOf GiB)) (Is GiB) Nothing)))
+    → r ≡ unitAfter t
+unfolding unitAfter unitNamed sameBytes
+unit-compared [] r e = e
+unit-compared (b ∷ t) r e = e ∙ go (eqb b space)
+  where
+    go : (q : Bool)
+        → cond (q && sameBytes t (nameOf B)) (Is B) (cond (q && sameBytes t (nameOf KiB)) (Is KiB) (cond (q && sameBytes t (nameOf MiB)) (Is MiB) (cond (q && sameBytes t (nameOf GiB)) (Is GiB) Nothing)))
+        ≡ cond q (unitNamed t) Nothing
+    go true = refl
+    go false = refl
 
 -- The whole part, w units, and the fraction's part, f of p parts of a unit, divided apart.
 module _ (w f p u : ℕ) where

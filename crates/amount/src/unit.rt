@@ -1,6 +1,6 @@
 // The four units: their names and their sizes.
 ghost use mathlib.Core.Path.{_≡_};
-ghost use Rattle.amount.specs.Amount.{sizeOf, unitNamed, unitAfter};
+ghost use Rattle.amount.specs.Amount.{sizeOf, unitAfter};
 use crate::ByteUnit;
 use crate::UnitFound;
 use lists::same_bytes;
@@ -17,34 +17,21 @@ pub(crate) fn size(unit: ByteUnit) -> u64
     }
 }
 
-// The unit that has this name.
-pub(crate) fn unit_named(name: &[u8]) -> UnitFound
-    ensures { λ r. ⌜ r ≡ unitNamed (now (name .entry)) ⌝ }
-{
-    if same_bytes(name, b"B") {
-        return UnitFound::Is(ByteUnit::B);
-    }
-    if same_bytes(name, b"KiB") {
-        return UnitFound::Is(ByteUnit::KiB);
-    }
-    if same_bytes(name, b"MiB") {
-        return UnitFound::Is(ByteUnit::MiB);
-    }
-    if same_bytes(name, b"GiB") {
-        return UnitFound::Is(ByteUnit::GiB);
-    }
-    UnitFound::Nothing
-}
-
 // One space, then the unit.
 pub(crate) fn unit_after(rest: &[u8]) -> UnitFound
     ensures { λ r. ⌜ r ≡ unitAfter (now (rest .entry)) ⌝ }
 {
-    if rest.len() == 0 {
-        return UnitFound::Nothing;
+    if same_bytes(rest, b" B") {
+        return UnitFound::Is(ByteUnit::B);
     }
-    if rest[0] != b' ' {
-        return UnitFound::Nothing;
+    if same_bytes(rest, b" KiB") {
+        return UnitFound::Is(ByteUnit::KiB);
     }
-    unit_named(&rest[1..])
+    if same_bytes(rest, b" MiB") {
+        return UnitFound::Is(ByteUnit::MiB);
+    }
+    if same_bytes(rest, b" GiB") {
+        return UnitFound::Is(ByteUnit::GiB);
+    }
+    UnitFound::Nothing
 }
