@@ -21,7 +21,7 @@ pub enum Cap {
 // The most bytes that a cap can count: 2^36.
 pub const LIMIT: u64 = 68_719_476_736;
 
-// The refusal numbers of the two functions here.
+// The refusal numbers of reading and writing an amount.
 pub const ROOM: u32 = 12;
 
 pub const TEXT: u32 = 22;

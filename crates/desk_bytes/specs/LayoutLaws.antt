@@ -29,7 +29,7 @@ use Rattle.journal.specs.Numbers.{bytesOf}
 use Rattle.journal.specs.NumberLaws.{length-bytesOf}
 use Rattle.desk_bytes.specs.Layout.{textBytesAll, textLength, hashLength, relayNoBytes, capBytes, capLength, placementBytes, placementLength, volumeBytes, volumeLength, entryBytes, entryLength, scopeBytes, scopeLength, tokenBytes, tokenLength, relayBytes, relayLength, putBytes, putLength, sessionBytes, sessionLength, tablesBytes, tablesLength, deskBytes, deskLength}
 
--- ---- the totals of the page
+-- ---- the totals
 
 pub text-total : textLength ≡ 136
 text-total = refl

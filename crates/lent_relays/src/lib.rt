@@ -1,7 +1,7 @@
 // Heartbeat and give-back on a relay table that is lent as a slice of records, by a caller who keeps it himself.
 //
 // Two thin functions change one record of a lent slice (one_row). What becomes of the record (records), and every decision of the
-// two calls (limits, answers), is by value, on a copy of the rows (copies).
+// two calls but for the number of rows (limits, answers), is by value, on a copy of the rows (copies).
 mod answers;
 mod calls;
 mod copies;

@@ -90,7 +90,7 @@ slotWork slot.Open r l = opens (record { 0 = r .no })
 slotWork slot.Stage r l = stages (textAt r l) (r .amount) (record { 0 = hashAt r l })
 slotWork slot.Abandon r l = abandons
 
--- the call of a record of the group; at the end and at a fault there is none
+-- the call of a record of the group; at the end and at a fault it stands for nothing, and is not made
 abbrev pub callIn : Group → Record → List ℕ → Call
 callIn group.End r l = callAt v01 r l
 callIn (group.Stop number) r l = callAt v01 r l

@@ -16,7 +16,7 @@ use rules::numbers::ROOM;
 // The most bytes of a journal whose records are read.
 const JOURNAL_MOST: usize = 65536;
 
-// How many bytes a buffer must have for the transcript of a journal of so many bytes; 655,381 are enough for any.
+// How many bytes are always enough for the transcript of a journal of so many bytes; 655,381 are for any.
 pub fn room_for(journal: usize) -> usize
     ensures { λ r. ⌜ r ≡ roomFor journal ⌝ }
 {
@@ -26,7 +26,7 @@ pub fn room_for(journal: usize) -> usize
     21 + 10 * journal
 }
 
-// On a fresh desk no call was made.
+// The fresh desk, where no call was made.
 fn without_calls(number: u32, len: usize) -> Replayed
     ensures { λ r. ⌜ r ≡ record { number = number; len = len; desk = freshDesk programRate } ⌝ }
 {

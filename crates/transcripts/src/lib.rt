@@ -60,7 +60,8 @@ pub struct Item {
     pub after: usize,
 }
 
-// What a replay gives: 0 and the length of the transcript, or 12 and 0; and the desk after the calls of the journal.
+// What a replay gives: 0 and the length of the transcript, or 12 and 0; and the desk after the calls of the
+// journal, which is a fresh one with 12, as no call was made.
 pub struct Replayed {
     pub number: u32,
     pub len: usize,

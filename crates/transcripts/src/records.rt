@@ -52,7 +52,7 @@ fn done(len: usize, t: Tables, slots: [Session; 4]) -> Replayed
 }
 
 // The records of a journal one after another, and the last line. The parts that a call gives back are stored in place, so that a
-// heartbeat moves the relay table and nothing else. `n` is the place of what stands at `p`, from 1.
+// heartbeat moves the relay table and nothing else. `n` is how many records stand before `p`.
 pub(crate) fn replay_records(journal: &[u8], out: &mut [u8], start: usize) -> Replayed
     requires { ⌜ (areBytes (now journal) ≡ true) × (length (now journal) < 65536) × (start + length (printedFrom 0 (freshDesk programRate) (records v01 (now journal))) ≤ length (now out)) ⌝ }
     ensures { λ r. ⌜ Replays start (records v01 (now (journal .entry))) (now (out .entry)) r (now (out .exit)) ⌝ }
