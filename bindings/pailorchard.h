@@ -3,7 +3,7 @@
  * A byte slice is a pointer and a length. The pointer is never null, also where the length is 0. What is lent to be
  * written overlaps nothing else that is lent. No function keeps a pointer, takes memory, or prints.
  *
- * A function that answers a number answers 0, or the number of a refusal; a refusal leaves all that was lent as it was.
+ * A function that answers a uint32_t answers 0, or the number of a refusal; a refusal leaves all that was lent as it was.
  *
  * The functions that replay a journal keep the desk on the stack: a thread that calls them needs 1 MB of it.
  */
