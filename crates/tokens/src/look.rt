@@ -32,7 +32,7 @@ fn look_entry(t: Tables, n: VolumeNo, path: &[u8]) -> Answer
     let Found::At(i) = find_entry(rows, n, path) else {
         return refusal(NO_ENTRY);
     };
-    let e = t.entries[i];
+    let e = rows[i];
     let hash = e.hash;
     success_with(e.size, hash)
 }
@@ -68,6 +68,6 @@ pub fn look_on(t: Tables, n: TokenNo, path: &[u8]) -> Answer
     let Found::At(i) = find_token(rows, n) else {
         return refusal(NO_TOKEN);
     };
-    let k = t.tokens[i];
+    let k = rows[i];
     look_token(t, k, path)
 }
