@@ -2,20 +2,17 @@
 use mathlib.Core.Path.{_≡_}
 use mathlib.Core.List.{List}
 use Prim.Native.Nat.{ℕ}
-use lib.ListN.{getD}
 use Rattle.rules.specs.declared.Account.{Account}
 use Rattle.rules.specs.declared.Hash.{Hash}
 use Rattle.rules.specs.declared.Session.{Session}
 use Rattle.rules.specs.declared.Tables.{Tables}
 use Rattle.rules.specs.declared.TablesOutcome.{TablesOutcome}
 use Rattle.rules.specs.declared.SlotOutcome.{SlotOutcome}
-use Rattle.rules.specs.Fresh.{freshSession}
 use Rattle.rules.specs.SessionCalls.{openRule, stageRule, abandonRule}
 use Rattle.rules.specs.VolumeCalls.{createRule, depositRule, deleteRule, undeleteRule, removeRule}
 use Rattle.rules.specs.TokenCalls.{grantRule, attenuateRule, revokeRule, lookRule}
 use Rattle.rules.specs.RelayCalls.{registerRule, heartbeatRule}
-use Rattle.rules.specs.Calls.{askRule, Work, workRule}
-use Rattle.commits.specs.Within.{commitWithin}
+use Rattle.rules.specs.Calls.{askRule, workRule}
 use Rattle.tokens.specs.Parts.{scopeArg}
 use Rattle.journal.specs.declared.Record.{Record}
 use Rattle.journal.specs.Places.{accountAt, textAt, hashAt}
@@ -28,7 +25,7 @@ use Rattle.transcripts.specs.declared.TokenCall.the-variants as token
 use Rattle.transcripts.specs.declared.SlotCall.{SlotCall}
 use Rattle.transcripts.specs.declared.SlotCall.the-variants as slot
 use Rattle.transcripts.specs.Groups.{relayAsk, volumeAsk, tokenAsk, lookAsk, deleteAsk, removeAsk, slotWork}
-use Rattle.transcripts.specs.Parts.{Asked, Worked}
+use Rattle.transcripts.specs.Parts.{Asked}
 
 module _ (t : Tables) (x : TablesOutcome) (r : Record) where
   pub registers : (w : RelayCall) → w ≡ relay.Register → x ≡ registerRule (r .amount) t → Asked x (relayAsk w r) t
@@ -97,11 +94,3 @@ module _ (t : Tables) (s : Session) (x : SlotOutcome) where
     pub abandoning : w ≡ slot.Abandon → x ≡ abandonRule t s → x ≡ workRule (slotWork w r l) t s
     unfolding workRule
     abandoning e f = rw e f
-
-  -- which is that of the slot j
-  module _ (slots : List Session) (j : ℕ) (e : s ≡ getD slots j freshSession) where
-    pub worked : (w : Work) → x ≡ workRule w t s → Worked x w t slots j
-    worked w f = record { same = rw (← e) f }
-
-    pub committed : x ≡ commitWithin t s → x ≡ commitWithin t (getD slots j freshSession)
-    committed f = rw (← e) f

@@ -6,6 +6,7 @@ use mathlib.Core.List.{List}
 use Prim.Native.Nat.{ℕ, _<_}
 use borrow.Author.Tests.{lt-leb}
 use lib.ListN.{getD, set}
+use Rattle.lists.specs.RowLaws.{same-row}
 use Rattle.lists.specs.TestLaws.{all-at}
 use Rattle.rules.specs.declared.Answer.{Answer}
 use Rattle.rules.specs.declared.Session.{Session}
@@ -38,7 +39,7 @@ use Rattle.transcripts.specs.declared.Group.the-variants as group
 use Rattle.transcripts.specs.declared.Item.{Item}
 use Rattle.transcripts.specs.Groups.{groupOf, relayAsk, volumeAsk, tokenAsk, lookAsk, deleteAsk, removeAsk, slotWork, callIn, isRecord, StandsAt}
 use Rattle.transcripts.specs.ItemLaws.{call-in-group, slot-there, no-slot-refused, item-named}
-use Rattle.transcripts.specs.Parts.{deskOf, Asked, Worked}
+use Rattle.transcripts.specs.Parts.{deskOf, Asked}
 use Rattle.transcripts.proofs.ReplayLaws.{Answered, Carried}
 
 -- ---- a desk that calls reach is sound, and there the work of an advance and of a commit is its rule
@@ -194,26 +195,32 @@ module _ (j : List ℕ) (p : ℕ) (y : Item) (ey : StandsAt j p y) where
         pub advance-said : Answered g r l t slots a
         advance-said = said (x .tables) slots advances
 
-    -- x is what the call on the session of the slot gave
-    module _ (x : SlotOutcome) where
-      module _ (w : SlotCall) (f : Worked x (slotWork w r l) t slots (r .slot)) (e : g ≡ group.Slot w) (ea : a ≡ x .answer) where
+    -- x is what the call on the session of the slot gave; d would stand for one past the slots
+    module _ (i : DeskInvariant (deskOf t slots)) (d : Session) (x : SlotOutcome) (ea : a ≡ x .answer) where
+      its-session : r .slot < 4 → getD slots (r .slot) d ≡ getD slots (r .slot) freshSession
+      its-session h = same-row slots (r .slot) d freshSession (rw (i .slots) h)
+
+      module _ (w : SlotCall) (f : x ≡ workRule (slotWork w r l) t (getD slots (r .slot) d)) (e : g ≡ group.Slot w) where
         works : Carried g r l t slots a (x .tables) (set slots (r .slot) (x .session))
-        works = by-work (rw e) x (slotWork w r l) (rw e) (slot-below w e) (f .same) ea
+        works = by-work (rw e) x (slotWork w r l) (rw e) (slot-below w e) (f ∙ ap (workRule (slotWork w r l) t) (its-session (slot-below w e))) ea
 
         pub slot-carried : (t′ : Tables) (slots′ : List Session) → t′ ≡ x .tables → slots′ ≡ set slots (r .slot) (x .session)
             → Carried g r l t slots a t′ slots′
-        slot-carried t′ slots′ et es = rw (et, es) works
+        slot-carried t′ slots′ et es′ = rw (et, es′) works
 
         pub slot-said : Answered g r l t slots a
         slot-said = said (x .tables) (set slots (r .slot) (x .session)) works
 
-      module _ (i : DeskInvariant (deskOf t slots)) (f : x ≡ commitWithin t (getD slots (r .slot) freshSession)) (e : g ≡ group.Commit) (ea : a ≡ x .answer) where
+      module _ (f : x ≡ commitWithin t (getD slots (r .slot) d)) (e : g ≡ group.Commit) where
         commits-on : Carried g r l t slots a (x .tables) (set slots (r .slot) (x .session))
-        commits-on = by-work (rw e) x commits (rw e) (commit-below e) (f ∙ commit-is (deskOf t slots) i (r .slot) (commit-below e)) ea
+        commits-on =
+            by-work (rw e) x commits (rw e) (commit-below e)
+            (f ∙ ap (commitWithin t) (its-session (commit-below e)) ∙ commit-is (deskOf t slots) i (r .slot) (commit-below e))
+            ea
 
         pub commit-carried : (t′ : Tables) (slots′ : List Session) → t′ ≡ x .tables → slots′ ≡ set slots (r .slot) (x .session)
             → Carried g r l t slots a t′ slots′
-        commit-carried t′ slots′ et es = rw (et, es) commits-on
+        commit-carried t′ slots′ et es′ = rw (et, es′) commits-on
 
         pub commit-said : Answered g r l t slots a
         commit-said = said (x .tables) (set slots (r .slot) (x .session)) commits-on

@@ -1,23 +1,17 @@
 // The work of a record, group by group: the call's fields are taken from the record and its bytes, and the call's crate does it.
 ghost use mathlib.Core.Path.{_≡_};
-ghost use Prim.Native.Nat.{_<_};
-ghost use lib.ListN.{getD, set};
-ghost use Rattle.rules.specs.Fresh.{freshSession};
 ghost use Rattle.rules.specs.Calls.{workRule};
 ghost use Rattle.entries.specs.Parts.{onRemove};
-ghost use Rattle.commits.specs.Parts.{onCommit};
-ghost use Rattle.commits.specs.Within.{commitWithin};
 ghost use Rattle.sessions.specs.Parts.{onSession};
 ghost use Rattle.relays.specs.Parts.{onRelays};
 ghost use Rattle.volumes.specs.Parts.{onVolumes, onDelete};
 ghost use Rattle.tokens.specs.Parts.{onTokens, unchanged};
 ghost use Rattle.transcripts.specs.Groups.{relayAsk, volumeAsk, tokenAsk, lookAsk, deleteAsk, removeAsk, slotWork};
-ghost use Rattle.transcripts.specs.Parts.{Asked, Worked};
+ghost use Rattle.transcripts.specs.Parts.{Asked};
 use super::RelayCall;
 use super::SlotCall;
 use super::TokenCall;
 use super::VolumeCall;
-use commits::CommitOutcome;
 use entries::RemoveOutcome;
 use journal::Record;
 use journal::account_of;
@@ -100,16 +94,14 @@ pub(crate) fn remove_call(t: Tables, r: Record, body: &[u8]) -> RemoveOutcome
     entries::remove_on(t, a, VolumeNo(r.no), text_of(body, r))
 }
 
-// The session of a slot.
-fn session_of(slots: [Session; 4], slot: usize) -> Session
-    requires { ⌜ slot < 4 ⌝ }
-    ensures { λ s. ⌜ s ≡ getD slots slot freshSession ⌝ }
-{
-    slots[slot]
-}
-
-// On the session of the slot.
-fn slot_work(t: Tables, s: Session, which: SlotCall, r: Record, body: &[u8]) -> SessionOutcome
+// A call on a slot, but for commit, on the slot's session.
+pub(crate) fn slot_call(
+    t: Tables,
+    s: Session,
+    which: SlotCall,
+    r: Record,
+    body: &[u8],
+) -> SessionOutcome
     ensures { λ o. ⌜ onSession t o ≡ workRule (slotWork which r (now (body .entry))) t s ⌝ }
 {
     match which {
@@ -120,37 +112,4 @@ fn slot_work(t: Tables, s: Session, which: SlotCall, r: Record, body: &[u8]) -> 
         }
         SlotCall::Abandon => sessions::abandon_on(t, s),
     }
-}
-
-pub(crate) fn slot_call(
-    t: Tables,
-    slots: [Session; 4],
-    which: SlotCall,
-    r: Record,
-    body: &[u8],
-) -> SessionOutcome
-    requires { ⌜ r .slot < 4 ⌝ }
-    ensures { λ o. ⌜ Worked (onSession t o) (slotWork which r (now (body .entry))) t slots (r .slot) ⌝ }
-{
-    let s = session_of(slots, r.slot as usize);
-    slot_work(t, s, which, r, body)
-}
-
-pub(crate) fn commit_call(t: Tables, slots: [Session; 4], slot: u8) -> CommitOutcome
-    requires { ⌜ slot < 4 ⌝ }
-    ensures { λ o. ⌜ onCommit t o ≡ commitWithin t (getD slots slot freshSession) ⌝ }
-{
-    let s = session_of(slots, slot as usize);
-    commits::commit_on(t, s)
-}
-
-// The slots with the session of one of them replaced.
-pub(crate) fn with_session(slots: [Session; 4], slot: u8, s: Session) -> [Session; 4]
-    requires { ⌜ slot < 4 ⌝ }
-    ensures { λ r. ⌜ r ≡ set slots slot s ⌝ }
-{
-    let i = slot as usize;
-    let mut next = slots;
-    next[i] = s;
-    next
 }

@@ -13,7 +13,6 @@ ghost use Rattle.transcripts.specs.Transcript.{programRate};
 ghost use Rattle.transcripts.specs.TranscriptLaws.{printedFrom};
 use super::Group;
 use super::Replayed;
-use super::carry::commit_call;
 use super::carry::delete_call;
 use super::carry::look_call;
 use super::carry::relay_call;
@@ -21,12 +20,12 @@ use super::carry::remove_call;
 use super::carry::slot_call;
 use super::carry::token_call;
 use super::carry::volume_call;
-use super::carry::with_session;
 use super::items::body_at;
 use super::items::item_at;
 use super::lines::put_end_line;
 use super::lines::put_record_line;
 use super::lines::put_stop_line;
+use commits::commit_on;
 use epochs::advance_on;
 use rules::Desk;
 use rules::Session;
@@ -96,10 +95,12 @@ pub(crate) fn replay_records(journal: &[u8], out: &mut [u8], start: usize) -> Re
                 t.last_token = o.last;
             }
             Group::Slot(which) => {
-                let o = slot_call(t, slots, which, r, body);
+                let i = r.slot as usize;
+                let s = slots[i];
+                let o = slot_call(t, s, which, r, body);
                 at = put_record_line(out, at, n, o.answer);
-                let sessions = with_session(slots, r.slot, o.session);
-                slots = sessions;
+                let session = o.session;
+                slots[i] = session;
             }
             Group::NoSlot => at = put_record_line(out, at, n, rules::refusal(BAD)),
             Group::Look => at = put_record_line(out, at, n, look_call(t, r, body)),
@@ -125,7 +126,9 @@ pub(crate) fn replay_records(journal: &[u8], out: &mut [u8], start: usize) -> Re
                 t.tokens = tokens;
             }
             Group::Commit => {
-                let o = commit_call(t, slots, r.slot);
+                let i = r.slot as usize;
+                let s = slots[i];
+                let o = commit_on(t, s);
                 at = put_record_line(out, at, n, o.answer);
                 let volumes = o.volumes;
                 t.volumes = volumes;
@@ -135,8 +138,8 @@ pub(crate) fn replay_records(journal: &[u8], out: &mut [u8], start: usize) -> Re
                 t.tokens = tokens;
                 let relays = o.relays;
                 t.relays = relays;
-                let after = with_session(slots, r.slot, o.session);
-                slots = after;
+                let after = o.session;
+                slots[i] = after;
             }
             Group::Remove => {
                 let o = remove_call(t, r, body);

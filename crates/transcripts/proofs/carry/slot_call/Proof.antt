@@ -1,6 +1,6 @@
--- `slot_call` meets its contract: the session of the slot takes the call. Assumes nothing.
+-- `slot_call` meets its contract: by the call. Assumes nothing.
 use borrow.Author.Needs.{needs}
-use Rattle.transcripts.proofs.CarryLaws.{worked}
+use Rattle.transcripts.proofs.CarryLaws.{opening, staging, abandoning}
 use Rattle.transcripts.proofs.carry.slot_call.Statement.{statement}
 use Rattle.transcripts.proofs.carry.slot_call.Tie as tie
 
@@ -10,5 +10,12 @@ slot-call-spec =
     (tie.spec
     (λ c. search needs)
     (λ c κs. search needs)
+    (λ c. search needs)
     (λ c κs. search needs)
-    (λ c. search worked))
+    (λ c κs. search needs)
+    (λ c κs. search needs)
+    (λ c. search needs)
+    (λ c κs. search needs)
+    (λ c. search opening)
+    (λ c. search staging)
+    (λ c. search abandoning))
