@@ -1,93 +1,120 @@
 -- What a collection and an advance leave, by what the code made. Assumes nothing.
-use mathlib.Core.Path.{_≡_, sym, _∙_, ap}
-use mathlib.Core.Bool.{Bool, true, false, not}
+use mathlib.Core.Path.{_≡_, refl, sym, _∙_, ap}
+use mathlib.Core.Bool.{Bool, true, false, _||_, cond, not}
 use mathlib.Core.List.{List, map}
 use Prim.Native.Nat.{ℕ, _<_, _≤_}
 use borrow.Author.Needs.{needs}
 use borrow.Author.Tests.{not-true, not-false, le-leb, lt-leb}
 use lib.Dec.{leb}
 use Rattle.lists.specs.Lists.{anyOf, keep}
+use Rattle.rules.specs.declared.Answer.{Answer}
 use Rattle.rules.specs.declared.Volume.{Volume}
 use Rattle.rules.specs.declared.Entry.{Entry}
 use Rattle.rules.specs.declared.Token.{Token}
 use Rattle.rules.specs.declared.Relay.{Relay}
 use Rattle.rules.specs.declared.Tables.{Tables}
-use Rattle.rules.specs.declared.TablesOutcome.{TablesOutcome}
 use Rattle.rules.specs.Numbers.{BAD, CLOCK}
 use Rattle.rules.specs.Fresh.{freshVolume, freshEntry, freshToken, freshRelay}
-use Rattle.rules.specs.Tables.{cleared, withClock, withVolumes, withEntries, withTokens, withRelays}
+use Rattle.rules.specs.Tables.{cleared, withClock, withVolumes, withRelays}
 use Rattle.rules.specs.Relays.{isDead, lightened}
 use Rattle.rules.specs.Rent.{rentNow, epochEnds}
-use Rattle.rules.specs.Outcome.{refused, accepted}
+use Rattle.rules.specs.Outcome.{success, refused, accepted}
 use Rattle.rules.specs.VolumeCalls.{dropEntries}
 use Rattle.rules.specs.Advance.{isDue, entryOfOne, relaysLeave, settled, settle, atEpoch, collect, badBlock, advanced}
 use Rattle.entries.specs.Marks.{marked, clearedBy}
 use Rattle.entries.specs.MarkLaws.{marked-keep, cleared-by}
 use Rattle.epochs.specs.declared.Settled.{Settled}
+use Rattle.epochs.specs.declared.PassOutcome.{PassOutcome}
+use Rattle.epochs.specs.declared.CollectOutcome.{CollectOutcome}
+use Rattle.epochs.specs.Parts.{onAdvance, onPass, onCollect, collected}
 use Rattle.epochs.specs.Gone.{dueNumber, entryGone, tokenGone}
 use Rattle.epochs.specs.GoneLaws.{marks-gone, tokens-gone, none-due}
-use Rattle.epochs.specs.Within.{canSettleAll, settledRows, canAdvance, advanceWithin}
+use Rattle.epochs.specs.Within.{canSettleAll, settledRows, settledAt, canAdvance, advanceWithin}
 
 -- the volumes vs and the relays rs are those that the collection starts from
-module _ (t : Tables) (block : ℕ) (vs : List Volume) (rs : List Relay) (x : TablesOutcome) where
+module _ (t : Tables) (block : ℕ) (vs : List Volume) (rs : List Relay) where
   -- the marked entries give their room back and go, and so do the tokens and rows of the volumes that are due
   pub collects : (gone : List ℕ) (ms : List Bool) (rows : List Relay) (left : List Entry) (ks : List Token) (kept : List Volume)
       → gone ≡ map (dueNumber block) vs → ms ≡ map (entryGone gone) (t .entries) → rows ≡ map (lightened vs (marked ms (t .entries))) rs
       → left ≡ clearedBy ms freshEntry (t .entries) → ks ≡ cleared (tokenGone gone) freshToken (t .tokens) → kept ≡ cleared (isDue block) freshVolume vs
-      → x ≡ accepted block (withVolumes (withTokens (withRelays (withEntries (withClock t block) left) rows) ks) kept)
-      → x ≡ accepted block (collect (isDue block) (withRelays (withVolumes (withClock t block) vs) rs))
+      → onCollect t (record { volumes = kept; entries = left; tokens = ks; relays = rows }) ≡ collect (isDue block) (withRelays (withVolumes t vs) rs)
   unfolding collect dropEntries
-  collects gone ms rows left ks kept g m r l k v e =
+  collects gone ms rows left ks kept g m r l k v =
       let p = entryOfOne (keep (isDue block) vs) in
       let q : ms ≡ map p (t .entries) = m ∙ rw g (marks-gone block vs (t .entries)) in
-      e ∙ rw (v, k, g, tokens-gone block vs (t .tokens), l, r, q, marked-keep p (t .entries), cleared-by p freshEntry (t .entries))
+      rw (v, k, g, tokens-gone block vs (t .tokens), l, r, q, marked-keep p (t .entries), cleared-by p freshEntry (t .entries))
 
--- the relays left, then the collection, or none where no volume is due
-module _ (t : Tables) (block : ℕ) (vs : List Volume) (rs : List Relay) (b : Bool) (x : TablesOutcome) (r : rs ≡ cleared (isDead block) freshRelay (t .relays)) where
-  pub none-collected : b ≡ anyOf (isDue block) vs → not b ≡ true
-      → x ≡ accepted block (withVolumes (withTokens (withRelays (withEntries (withClock t block) (t .entries)) rs) (t .tokens)) vs)
-      → x ≡ accepted block (collect (isDue block) (withVolumes (relaysLeave (withClock t block)) vs))
-  unfolding relaysLeave
-  none-collected e f q =
-      let u = withRelays (withVolumes (withClock t block) vs) (cleared (isDead block) freshRelay (t .relays)) in
-      q ∙ rw r (ap (accepted block) (sym (none-due (isDue block) u (sym e ∙ not-true b f))))
+-- the collection, or none where no volume is due
+when-due : (block : ℕ) (u : Tables) (due : Bool) → due ≡ anyOf (isDue block) (u .volumes) → accepted block (collect (isDue block) u) ≡ collected due block (accepted block u)
+unfolding collected
+when-due block u true e = refl
+when-due block u false e = ap (accepted block) (none-due (isDue block) u (sym e))
 
-  pub some-collected : x ≡ accepted block (collect (isDue block) (withRelays (withVolumes (withClock t block) vs) rs))
-      → x ≡ accepted block (collect (isDue block) (withVolumes (relaysLeave (withClock t block)) vs))
-  unfolding relaysLeave
-  some-collected q = q ∙ rw r
+-- the volumes at the block: n is how many epochs end
+module _ (t : Tables) (block n : ℕ) (e : n ≡ epochEnds (t .clock) block) where
+  pub within-epoch : n < 1 → record { fits = true; rows = t .volumes } ≡ settledAt block t
+  unfolding settledAt
+  within-epoch h = sym (rw (← e, lt-leb 1 n h))
 
--- an advance: b is what the code said of the block, and n how many epochs end
-module _ (t : Tables) (block : ℕ) (b : Bool) (x : TablesOutcome) (e : b ≡ badBlock (t .clock) block) where
-  pub bad-block-is : b ≡ true → x ≡ refused t CLOCK → x ≡ advanceWithin block t
-  unfolding advanceWithin
-  bad-block-is f q = q ∙ sym (rw (sym e ∙ f))
+  -- y is the volumes after the epoch end
+  pub at-end : (y : Settled) → 1 ≤ n → y ≡ settledRows t → y ≡ settledAt block t
+  unfolding settledAt
+  at-end y h s = s ∙ sym (rw (← e, le-leb 1 n h))
 
-  module _ (n : ℕ) (f : b ≡ false) (g : n ≡ epochEnds (t .clock) block) where
-    pub within-epoch : n < 1 → x ≡ accepted block (collect (isDue block) (withVolumes (relaysLeave (withClock t block)) (t .volumes))) → x ≡ advanceWithin block t
-    unfolding advanceWithin canAdvance advanced atEpoch relaysLeave
-    within-epoch h q =
-        let z : leb 1 (epochEnds (t .clock) block) ≡ false = rw (← g) (lt-leb 1 n h) in
-        q ∙ sym (rw (sym e ∙ f, z))
+-- they can be settled where the advance can be made, and are those of the rules
+fits-at : (t : Tables) (ends : Bool) → cond ends (settledRows t) (record { fits = true; rows = t .volumes }) .fits ≡ (not ends || canSettleAll t)
+unfolding settledRows
+fits-at t true = refl
+fits-at t false = refl
 
-    -- y is the volumes after the epoch end
-    module _ (y : Settled) (h : 1 ≤ n) (s : y ≡ settledRows t) where
-      ends : leb 1 (epochEnds (t .clock) block) ≡ true
-      ends = rw (← g) (le-leb 1 n h)
+rows-at : (t : Tables) (block : ℕ) (ends : Bool) → (not ends || canSettleAll t) ≡ true
+    → atEpoch ends (relaysLeave (withClock t block))
+    ≡ withVolumes (relaysLeave (withClock t block)) (cond ends (settledRows t) (record { fits = true; rows = t .volumes }) .rows)
+unfolding atEpoch settle settled rentNow relaysLeave settledRows
+rows-at t block true w = rw w
+rows-at t block false w = refl
 
-      fits-all : y .fits ≡ canSettleAll t
-      unfolding settledRows
-      fits-all = ap (λ (z : Settled). z .fits) s
+-- the first part of an advance: b is what the code said of the block
+module _ (t : Tables) (block : ℕ) (b : Bool) (e : b ≡ badBlock (t .clock) block) where
+  -- o is what was kept
+  pub bad-block-is : (o : PassOutcome) → b ≡ true → onPass t o ≡ refused t CLOCK → o .due ≡ false → advanceWithin block t ≡ collected (o .due) block (onPass t o)
+  unfolding advanceWithin collected
+  bad-block-is o f q d = rw (sym e ∙ f, d) (sym q)
 
-      pub not-settled : not (y .fits) ≡ true → x ≡ refused t BAD → x ≡ advanceWithin block t
-      unfolding advanceWithin canAdvance
-      not-settled w q = q ∙ sym (rw (sym e ∙ f, ends, sym fits-all ∙ not-true (y .fits) w))
+  -- y is the volumes at the block
+  module _ (y : Settled) (f : b ≡ false) (s : y ≡ settledAt block t) where
+    fits-all : y .fits ≡ canAdvance block t
+    unfolding settledAt canAdvance
+    fits-all = rw s (fits-at t (leb 1 (epochEnds (t .clock) block)))
 
-      pub all-settled : not (y .fits) ≡ false
-          → x ≡ accepted block (collect (isDue block) (withVolumes (relaysLeave (withClock t block)) (y .rows))) → x ≡ advanceWithin block t
-      unfolding advanceWithin canAdvance advanced atEpoch settle settled rentNow relaysLeave settledRows
-      all-settled w q =
-          let c : canSettleAll t ≡ true = sym fits-all ∙ not-false (y .fits) w in
-          q ∙ rw (s, c) (sym (rw (sym e ∙ f, ends)))
+    pub not-settled : (o : PassOutcome) → not (y .fits) ≡ true → onPass t o ≡ refused t BAD → o .due ≡ false
+        → advanceWithin block t ≡ collected (o .due) block (onPass t o)
+    unfolding advanceWithin collected
+    not-settled o w q d = rw (sym e ∙ f, sym fits-all ∙ not-true (y .fits) w, d) (sym q)
 
-pub ruleset advances = (within-epoch, not-settled, all-settled, bad-block-is, needs)
+    pub goes-on : (rs : List Relay) (due : Bool) (answer : Answer) → not (y .fits) ≡ false → rs ≡ cleared (isDead block) freshRelay (t .relays)
+        → due ≡ anyOf (isDue block) (y .rows) → answer ≡ success block
+        → advanceWithin block t ≡ collected due block (onPass t (record { answer = answer; clock = block; volumes = y .rows; relays = rs; due = due }))
+    unfolding advanceWithin advanced settledAt canAdvance relaysLeave
+    goes-on rs due answer w r d a =
+        let c : canAdvance block t ≡ true = sym fits-all ∙ not-false (y .fits) w in
+        let u = withVolumes (relaysLeave (withClock t block)) (y .rows) in
+        let q : atEpoch (leb 1 (epochEnds (t .clock) block)) (relaysLeave (withClock t block)) ≡ u = rw s (rows-at t block (leb 1 (epochEnds (t .clock) block)) c) in
+        rw (sym e ∙ f, c, q, r, a) (when-due block u due d)
+
+pub ruleset passes = (goes-on, not-settled, bad-block-is, needs)
+
+-- a whole advance: o is what its first part left, and y what the collection left
+module _ (t : Tables) (block : ℕ) (o : PassOutcome) (q : advanceWithin block t ≡ collected (o .due) block (onPass t o)) where
+  pub none-collected : not (o .due) ≡ true
+      → onAdvance t (record { answer = o .answer; clock = o .clock; volumes = o .volumes; entries = t .entries; tokens = t .tokens; relays = o .relays }) ≡ advanceWithin block t
+  unfolding collected
+  none-collected f = sym (q ∙ rw (not-true (o .due) f))
+
+  pub some-collected : (y : CollectOutcome) → not (o .due) ≡ false → onCollect t y ≡ collect (isDue block) (withRelays (withVolumes t (o .volumes)) (o .relays))
+      → onAdvance t (record { answer = o .answer; clock = o .clock; volumes = y .volumes; entries = y .entries; tokens = y .tokens; relays = y .relays }) ≡ advanceWithin block t
+  unfolding collected collect dropEntries
+  some-collected y f e =
+      ap (λ (u : Tables). record { answer = o .answer; tables = withClock u (o .clock) }) e ∙ sym (q ∙ rw (not-false (o .due) f))
+
+pub ruleset advances = (none-collected, some-collected, needs)

@@ -41,6 +41,10 @@ settledRow t v = record { fits = canSettle t v; row = cond (canSettle t v) (sett
 unfoldable pub settledRows : Tables → Settled
 settledRows t = record { fits = canSettleAll t; rows = cond (canSettleAll t) (map (settled t) (t .volumes)) (t .volumes) }
 
+-- the volumes at a block: at an epoch end, or as they are where none is reached
+unfoldable pub settledAt : ℕ → Tables → Settled
+settledAt block t = cond (leb 1 (epochEnds (t .clock) block)) (settledRows t) (record { fits = true; rows = t .volumes })
+
 -- no epoch ends, or every volume can be settled
 unfoldable pub canAdvance : ℕ → Tables → Bool
 canAdvance block t = not (leb 1 (epochEnds (t .clock) block)) || canSettleAll t

@@ -4,13 +4,11 @@ ghost use mathlib.Core.Bool.{_&&_};
 ghost use mathlib.Core.List.{map};
 ghost use Rattle.lists.specs.Lists.{anyOf};
 ghost use Rattle.rules.specs.Fresh.{freshToken};
-ghost use Rattle.rules.specs.Tables.{given, numbered, cleared, withClock, withVolumes, withRelays};
-ghost use Rattle.rules.specs.Outcome.{accepted};
+ghost use Rattle.rules.specs.Tables.{given, numbered, cleared, withVolumes, withRelays};
 ghost use Rattle.rules.specs.Advance.{isDue, collect};
-ghost use Rattle.epochs.specs.Parts.{onAdvance};
+ghost use Rattle.epochs.specs.Parts.{onCollect};
 ghost use Rattle.epochs.specs.Gone.{entryGone, tokenGone};
-use super::AdvanceOutcome;
-use super::advance::accept;
+use super::CollectOutcome;
 use super::due::clear_due;
 use super::due::due_numbers;
 use super::due::is_one_of;
@@ -66,8 +64,8 @@ pub(crate) fn collect_due(
     block: u64,
     volumes: [Volume; 8],
     relays: [Relay; 32],
-) -> AdvanceOutcome
-    ensures { λ r. ⌜ onAdvance t r ≡ accepted block (collect (isDue block) (withRelays (withVolumes (withClock t block) volumes) relays)) ⌝ }
+) -> CollectOutcome
+    ensures { λ r. ⌜ onCollect t r ≡ collect (isDue block) (withRelays (withVolumes t volumes) relays) ⌝ }
 {
     let gone = due_numbers(block, volumes);
     let entries = t.entries;
@@ -77,5 +75,19 @@ pub(crate) fn collect_due(
     let before = t.tokens;
     let tokens = clear_tokens(before, gone);
     let kept = clear_due(block, volumes);
-    accept(t, block, kept, left, tokens, rows)
+    CollectOutcome {
+        volumes: kept,
+        entries: left,
+        tokens,
+        relays: rows,
+    }
+}
+
+// The volumes that are due at the block go.
+pub fn collect_on(t: Tables, block: u64) -> CollectOutcome
+    ensures { λ r. ⌜ onCollect t r ≡ collect (isDue block) t ⌝ }
+{
+    let volumes = t.volumes;
+    let relays = t.relays;
+    collect_due(t, block, volumes, relays)
 }

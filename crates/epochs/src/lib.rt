@@ -10,6 +10,8 @@ mod paying;
 mod settle;
 
 pub use advance::advance_on;
+pub use advance::pass_on;
+pub use collect::collect_on;
 use rules::Answer;
 use rules::Entry;
 use rules::Relay;
@@ -20,6 +22,23 @@ use rules::Volume;
 pub struct AdvanceOutcome {
     pub answer: Answer,
     pub clock: u64,
+    pub volumes: [Volume; 8],
+    pub entries: [Entry; 64],
+    pub tokens: [Token; 32],
+    pub relays: [Relay; 32],
+}
+
+// What an advance leaves before volumes are collected: the clock, the volumes and the relays, and whether some volume is due.
+pub struct PassOutcome {
+    pub answer: Answer,
+    pub clock: u64,
+    pub volumes: [Volume; 8],
+    pub relays: [Relay; 32],
+    pub due: bool,
+}
+
+// What a collection leaves.
+pub struct CollectOutcome {
     pub volumes: [Volume; 8],
     pub entries: [Entry; 64],
     pub tokens: [Token; 32],

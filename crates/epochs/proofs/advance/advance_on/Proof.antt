@@ -1,4 +1,4 @@
--- `advance::advance_on` meets its contract: a bad block, no epoch end, volumes that cannot be settled, or volumes that were. Assumes nothing.
+-- `advance::advance_on` meets its contract: what the first part left, after the collection where some volume is due. Assumes nothing.
 use Rattle.epochs.proofs.AdvanceLaws.{advances}
 use Rattle.epochs.proofs.advance.advance_on.Statement.{statement}
 use Rattle.epochs.proofs.advance.advance_on.Tie as tie
@@ -8,13 +8,6 @@ advance-on-spec =
     tie.close
     (tie.spec
     (λ c κs. search advances)
+    (λ c. search advances)
     (λ c κs. search advances)
-    (λ c. search advances)  -- CLOCK
-    (λ c κs. search advances)
-    (λ c κs. search advances)
-    (λ c. search advances)  -- no epoch ends
-    (λ c κs. search advances)
-    (λ c κs. search advances)
-    (λ c. search advances)  -- BAD
-    (λ c κs. search advances)
-    (λ c. search advances))  -- the volumes are settled
+    (λ c. search advances))
