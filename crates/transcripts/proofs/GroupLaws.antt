@@ -1,7 +1,7 @@
 -- What each arm of a replay leaves is what the call of its record leaves. r is the record, l its bytes and g its group, which the arm names; x is what
 -- the arm's function said of the tables, and t′, slots′ and a are the tables, the slots and the answer after the arm. Assumes nothing.
 use mathlib.Core.Path.{_≡_, refl, sym, _∙_, ap}
-use mathlib.Core.Bool.{true}
+use mathlib.Core.Bool.{Bool, true, false}
 use mathlib.Core.List.{List}
 use Prim.Native.Nat.{ℕ, _<_}
 use borrow.Author.Tests.{lt-leb}
@@ -23,6 +23,8 @@ use Rattle.rules.specs.Sound.{soundTables, soundSession}
 use Rattle.rules.specs.Laws.SoundParts.{of-parts, tables-sound, slots-sound}
 use Rattle.rules.specs.Laws.StaysSound.{DeskInvariant}
 use Rattle.rules.specs.Calls.{Ask, askRule, Work, commits, workRule, Call, ask, onSlot, withSlot, rule}
+use Rattle.rules.specs.Advance.{isDue, collect}
+use Rattle.epochs.specs.Parts.{collected}
 use Rattle.epochs.specs.Within.{advanceWithin}
 use Rattle.epochs.specs.WithinLaws.{advance-sound}
 use Rattle.commits.specs.Within.{commitWithin}
@@ -58,6 +60,12 @@ commit-is : (d : Desk) → DeskInvariant d → (j : ℕ) → j < slotRows
     → commitWithin (d .tables) (getD (d .sessions) j freshSession) ≡ workRule commits (d .tables) (getD (d .sessions) j freshSession)
 unfolding workRule
 commit-is d i j h = commit-sound (d .tables) (getD (d .sessions) j freshSession) (i .shape .entry-rows) (tables-in d i) (slot-in d i j h)
+
+-- the collection leaves the answer
+same-answer : (block : ℕ) (due : Bool) (x : TablesOutcome) → collected due block x .answer ≡ x .answer
+unfolding collected
+same-answer block true x = refl
+same-answer block false x = refl
 
 -- ---- the arms
 
@@ -185,15 +193,23 @@ module _ (j : List ℕ) (p : ℕ) (y : Item) (ey : StandsAt j p y) where
       pub remove-said : Asked x (removeAsk r l) t → g ≡ group.Remove → a ≡ x .answer → Answered g r l t slots a
       remove-said f e ea = said (x .tables) slots (by-ask (rw e) x (removeAsk r l) (rw e) (f .same) ea)
 
-      module _ (i : DeskInvariant (deskOf t slots)) (f : x ≡ advanceWithin (r .amount) t) (e : g ≡ group.Advance) (ea : a ≡ x .answer) where
-        advances : Carried g r l t slots a (x .tables) slots
-        advances = by-ask (rw e) x (Ask.advance (r .amount)) (rw e) (f ∙ advance-is (deskOf t slots) i (r .amount)) ea
+      -- x is what an advance left before the collection, which follows where due is true
+      module _ (i : DeskInvariant (deskOf t slots)) (due : Bool) (f : advanceWithin (r .amount) t ≡ collected due (r .amount) x) (e : g ≡ group.Advance) (ea : a ≡ x .answer) where
+        advances : Carried g r l t slots a (collected due (r .amount) x .tables) slots
+        advances =
+            by-ask (rw e) (collected due (r .amount) x) (Ask.advance (r .amount)) (rw e) (sym f ∙ advance-is (deskOf t slots) i (r .amount)) (ea ∙ sym (same-answer (r .amount) due x))
 
-        pub advance-carried : (t′ : Tables) (slots′ : List Session) → t′ ≡ x .tables → slots′ ≡ slots → Carried g r l t slots a t′ slots′
-        advance-carried t′ slots′ et es = rw (et, es) advances
+        pub advance-carried : due ≡ false → (t′ : Tables) (slots′ : List Session) → t′ ≡ x .tables → slots′ ≡ slots → Carried g r l t slots a t′ slots′
+        unfolding collected
+        advance-carried ed t′ slots′ et es = rw (et, es) (rw ed at advances)
+
+        pub collection-carried : due ≡ true → (t′ : Tables) (slots′ : List Session) → t′ ≡ collect (isDue (r .amount)) (x .tables) → slots′ ≡ slots
+            → Carried g r l t slots a t′ slots′
+        unfolding collected
+        collection-carried ed t′ slots′ et es = rw (et, es) (rw ed at advances)
 
         pub advance-said : Answered g r l t slots a
-        advance-said = said (x .tables) slots advances
+        advance-said = said (collected due (r .amount) x .tables) slots advances
 
     -- x is what the call on the session of the slot gave; d would stand for one past the slots
     module _ (i : DeskInvariant (deskOf t slots)) (d : Session) (x : SlotOutcome) (ea : a ≡ x .answer) where

@@ -26,7 +26,8 @@ use super::lines::put_end_line;
 use super::lines::put_record_line;
 use super::lines::put_stop_line;
 use commits::commit_on;
-use epochs::advance_on;
+use epochs::collect_on;
+use epochs::pass_on;
 use rules::Desk;
 use rules::Session;
 use rules::Tables;
@@ -105,17 +106,24 @@ pub(crate) fn replay_records(journal: &[u8], out: &mut [u8], start: usize) -> Re
             Group::NoSlot => at = put_record_line(out, at, n, rules::refusal(BAD)),
             Group::Look => at = put_record_line(out, at, n, look_call(t, r, body)),
             Group::Advance => {
-                let o = advance_on(t, r.amount);
+                let o = pass_on(t, r.amount);
                 at = put_record_line(out, at, n, o.answer);
                 t.clock = o.clock;
                 let volumes = o.volumes;
                 t.volumes = volumes;
-                let entries = o.entries;
-                t.entries = entries;
-                let tokens = o.tokens;
-                t.tokens = tokens;
                 let relays = o.relays;
                 t.relays = relays;
+                if o.due {
+                    let c = collect_on(t, r.amount);
+                    let volumes = c.volumes;
+                    t.volumes = volumes;
+                    let entries = c.entries;
+                    t.entries = entries;
+                    let tokens = c.tokens;
+                    t.tokens = tokens;
+                    let relays = c.relays;
+                    t.relays = relays;
+                }
             }
             Group::Delete => {
                 let o = delete_call(t, r, body);

@@ -3,7 +3,7 @@
 use Prim.Native.Nat.{_-_}
 use lib.ListN.{length}
 use borrow.Author.Needs.{needs}
-use Rattle.transcripts.proofs.GroupLaws.{relays-stand, relays-said, relays-carried, volumes-stand, volumes-said, volumes-carried, tokens-stand, tokens-said, tokens-carried, slot-below, slot-stand, slot-said, slot-carried, no-slot-stand, no-slot-said, no-slot-carried, look-stand, look-said, look-carried, advance-stand, advance-said, advance-carried, delete-stand, delete-said, delete-carried, commit-below, commit-stand, commit-said, commit-carried, remove-stand, remove-said, remove-carried}
+use Rattle.transcripts.proofs.GroupLaws.{relays-stand, relays-said, relays-carried, volumes-stand, volumes-said, volumes-carried, tokens-stand, tokens-said, tokens-carried, slot-below, slot-stand, slot-said, slot-carried, no-slot-stand, no-slot-said, no-slot-carried, look-stand, look-said, look-carried, advance-stand, advance-said, advance-carried, collection-carried, delete-stand, delete-said, delete-carried, commit-below, commit-stand, commit-said, commit-carried, remove-stand, remove-said, remove-carried}
 use Rattle.transcripts.proofs.ReplayLaws.{ReplayLoop, replay-start, count-fits, places, ends, stops, line-room, fewer-left, replay-step}
 use Rattle.transcripts.proofs.records.replay_records.Statement.{statement}
 use Rattle.transcripts.proofs.records.replay_records.Tie as tie
@@ -70,6 +70,9 @@ replay-records-spec =
     (λ c. search needs)
     (λ c κs. search needs)
     (λ c κs. search (line-room, advance-said))
+    (λ c κs. search needs)
+    (λ c. search (fewer-left, advance-stand))
+    (λ c. search (replay-step, collection-carried))  -- volumes are collected
     (λ c. search (fewer-left, advance-stand))
     (λ c. search (replay-step, advance-carried))
     (λ c. search needs)
