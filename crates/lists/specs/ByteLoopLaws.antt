@@ -1,8 +1,8 @@
 -- The loops over the bytes of a slice: for each shape its invariant at byte i, and the laws of its start, its return, its step and its end. Each
 -- law ends in what the code owes, and its premises are what the code knows, so that one list serves each need of such a loop: `search starts`,
--- `search fills`. Where every byte passes a test, AllLoop of LoopLaws serves. Assumes nothing.
+-- `search fills`. Where every byte passes a test, AllLoop and EveryLoop of LoopLaws serve. Assumes nothing.
 use mathlib.Core.Path.{_≡_, refl, sym, _∙_, ap}
-use mathlib.Core.Bool.{true, false}
+use mathlib.Core.Bool.{Bool, true, false, _&&_, and-true, and-false}
 use mathlib.Core.List.{List, map, append-nil}
 use Prim.Native.Nat.{ℕ, suc, _+_, _<_, _≤_}
 use native.Mathlib.Nat.{zero-add}
@@ -15,28 +15,31 @@ use Rattle.lists.specs.Bytes.{startsWith}
 use Rattle.lists.specs.RowLaws.{rows-length}
 use Rattle.lists.specs.ByteLaws.{starts-short, starts-differ, starts-on, starts-end}
 
--- b begins with a: what is left to compare from byte i on
-pub record StartsLoop (a b : List ℕ) (i : ℕ) : Type 0 where
+-- b begins with a: same says whether their bytes before i are the same, and what is left from byte i on decides the rest
+pub record StartsLoop (a b : List ℕ) (i : ℕ) (same : Bool) : Type 0 where
   pub fits : length a ≤ length b
   pub place : i ≤ length a
-  pub rest : startsWith a b ≡ startsWith (drop i a) (drop i b)
+  pub rest : startsWith a b ≡ (same && startsWith (drop i a) (drop i b))
 
 module _ (a b : List ℕ) where
-  pub starts-start : length a ≤ length b → StartsLoop a b 0
+  pub starts-start : length a ≤ length b → StartsLoop a b 0 true
   starts-start h = record { fits = h; place = omega arith; rest = refl }
 
   pub too-short : length b < length a → false ≡ startsWith a b
   too-short h = sym (starts-short a b h)
 
-  module _ (i : ℕ) (h : StartsLoop a b i) where
-    pub starts-other : i < length a → (getD a i 0 ≡ getD b i 0 → ⊥) → false ≡ startsWith a b
-    starts-other k n = sym (h .rest ∙ starts-differ a b i (omega arith) (omega arith) n)
+  -- same′ is what the code says after byte i
+  module _ (i : ℕ) (same : Bool) (h : StartsLoop a b i same) where
+    pub starts-other : (same′ : Bool) → i < length a → (getD a i 0 ≡ getD b i 0 → ⊥) → same′ ≡ false → StartsLoop a b (i + 1) same′
+    starts-other same′ k n q =
+        rw q
+        (record { fits = h .fits; place = omega arith; rest = h .rest ∙ rw (starts-differ a b i (omega arith) (omega arith) n) (and-false same) })
 
-    pub starts-step : i < length a → getD a i 0 ≡ getD b i 0 → StartsLoop a b (i + 1)
-    starts-step k e = record { fits = h .fits; place = omega arith; rest = h .rest ∙ starts-on a b i (omega arith) (omega arith) e }
+    pub starts-step : (same′ : Bool) → i < length a → getD a i 0 ≡ getD b i 0 → same′ ≡ same → StartsLoop a b (i + 1) same′
+    starts-step same′ k e q = rw q (record { fits = h .fits; place = omega arith; rest = h .rest ∙ rw (starts-on a b i (omega arith) (omega arith) e) })
 
-    pub starts-all : length a ≤ i → true ≡ startsWith a b
-    starts-all k = sym (h .rest ∙ starts-end a b i k)
+    pub starts-all : length a ≤ i → same ≡ startsWith a b
+    starts-all k = sym (h .rest ∙ rw (starts-end a b i k) (and-true same))
 
 pub ruleset starts = (starts-other, starts-step, starts-all, too-short, starts-start, needs)
 

@@ -1,9 +1,9 @@
 -- The loops over the rows of a table, or over its first k rows, `take k l`: for each shape its invariant at row i of n, and the laws of its
 -- start, its return, its step and its end. b is what the code's test said of row i, and d stands for a row past the end. Each law ends in what
 -- the code owes, and its premises are what the code knows, so that one list serves each need of such a loop: `search finds`, `search anys`,
--- `search alls`, `search clashes`, `search sums`. Assumes nothing.
+-- `search alls`, `search everys`, `search clashes`, `search sums`. Assumes nothing.
 use mathlib.Core.Path.{_≡_, refl, sym, _∙_}
-use mathlib.Core.Bool.{Bool, true, false, not}
+use mathlib.Core.Bool.{Bool, true, false, not, _&&_, and-true, and-false}
 use mathlib.Core.List.{List}
 use Prim.Native.Nat.{ℕ, _+_, _<_, _≤_, min}
 use native.Mathlib.Omega.{arith}
@@ -144,6 +144,29 @@ module _ {A : Type 0} (d : A) (p : A → Bool) (l : List A) (k n i : ℕ) (b : B
 pub ruleset alls = (all-failed, all-step, all-passed, all-start, sizes)
 
 pub ruleset alls-part = (all-failed-part, all-step-part, all-passed, all-start, sizes)
+
+-- the same with no return before the end: all says whether the rows before i pass
+pub record EveryLoop {A : Type 0} (p : A → Bool) (l : List A) (n i : ℕ) (all : Bool) : Type 0 where
+  pub size : length l ≡ n
+  pub rest : allOf p l ≡ (all && allOf p (drop i l))
+
+module _ {A : Type 0} (p : A → Bool) (l : List A) where
+  pub every-start : (n : ℕ) → length l ≡ n → EveryLoop p l n 0 true
+  every-start n e = record { size = e; rest = refl }
+
+  pub every-end : (n i : ℕ) (all : Bool) → EveryLoop p l n i all → n ≤ i → all ≡ allOf p l
+  every-end n i all h k = sym (h .rest ∙ rw (all-end p l i (omega (arith, h .size))) (and-true all))
+
+-- all′ is what the code says after row i
+module _ {A : Type 0} (d : A) (p : A → Bool) (l : List A) (n i : ℕ) (all b all′ : Bool) where
+  pub every-fails : EveryLoop p l n i all → i < n → b ≡ p (getD l i d) → not b ≡ true → all′ ≡ false → EveryLoop p l n (i + 1) all′
+  every-fails h k e t q =
+      rw q (record { size = h .size; rest = h .rest ∙ rw (all-fails p l d i (omega (arith, h .size)) e (not-true b t)) (and-false all) })
+
+  pub every-on : EveryLoop p l n i all → i < n → b ≡ p (getD l i d) → not b ≡ false → all′ ≡ all → EveryLoop p l n (i + 1) all′
+  every-on h k e t q = rw q (record { size = h .size; rest = h .rest ∙ rw (all-on p l d i (omega (arith, h .size)) e (not-false b t)) })
+
+pub ruleset everys = (every-fails, every-on, every-end, every-start, sizes)
 
 -- no row clashes with a later one: the test of the rows is the test of those from i on. b says whether a row after i clashes with it
 pub record ClashLoop {A : Type 0} (clash : A → A → Bool) (l : List A) (n i : ℕ) : Type 0 where

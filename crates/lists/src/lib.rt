@@ -16,14 +16,15 @@ pub fn starts_with(prefix: &[u8], s: &[u8]) -> bool
     if s.len() < prefix.len() {
         return false;
     }
+    let mut same = true;
     let mut i: usize = 0;
     while i < prefix.len() {
         if prefix[i] != s[i] {
-            return false;
+            same = false;
         }
         i += 1;
     }
-    true
+    same
 }
 
 // Whether two slices hold the same bytes.

@@ -1,9 +1,12 @@
-// The rules of paths and prefixes. A path is read from its last byte to its first, so that each part is
-// known whole when the slash before it is met.
+// The rules of paths and prefixes. A quick test that most paths pass reads many bytes at once. A path that fails it
+// is read from its last byte to its first, so that each part is known whole when the slash before it is met.
 ghost use mathlib.Core.Path.{_≡_};
+ghost use Prim.Native.Nat.{_<_};
+ghost use lib.ListN.{length};
 ghost use Rattle.lists.specs.Lists.{allOf};
 ghost use Rattle.text.specs.Text.{isPathByte, isPart, parts, isPath, isPrefix, holds};
 ghost use Rattle.text.specs.Scan.{longer, passes, scanByte};
+ghost use Rattle.text.specs.Plain.{isDoubtful, plainPairs, plainParts};
 use crate::PATH_LIMIT;
 use crate::Text;
 use crate::bytes::within;
@@ -93,14 +96,52 @@ fn parts_pass(s: &[u8]) -> bool
 fn path_bytes(s: &[u8]) -> bool
     ensures { λ r. ⌜ r ≡ allOf isPathByte (now (s .entry)) ⌝ }
 {
+    let mut all = true;
     let mut i: usize = 0;
     while i < s.len() {
         if !within(0x21, 0x7e, s[i]) {
-            return false;
+            all = false;
         }
         i += 1;
     }
-    true
+    all
+}
+
+// Whether a slash stands before a slash or a dot: 0x2f2e or 0x2f2f as one number.
+fn is_doubtful(a: u8, b: u8) -> bool
+    ensures { λ r. ⌜ r ≡ isDoubtful a b ⌝ }
+{
+    let pair = (a as u16) * 256 + (b as u16);
+    pair / 2 == 6039
+}
+
+// Whether no slash stands before a slash or a dot.
+fn plain_pairs(s: &[u8]) -> bool
+    ensures { λ r. ⌜ r ≡ plainPairs (now (s .entry)) ⌝ }
+{
+    let mut all = true;
+    let mut i: usize = 1;
+    while i < s.len() {
+        if is_doubtful(s[i - 1], s[i]) {
+            all = false;
+        }
+        i += 1;
+    }
+    all
+}
+
+// Whether every part begins with another byte than a dot, and none is empty.
+fn plain_parts(s: &[u8]) -> bool
+    requires { ⌜ 0 < length (now s) ⌝ }
+    ensures { λ r. ⌜ r ≡ plainParts (now (s .entry)) ⌝ }
+{
+    if is_doubtful(SLASH, s[0]) {
+        return false;
+    }
+    if s[s.len() - 1] == SLASH {
+        return false;
+    }
+    plain_pairs(s)
 }
 
 // Whether s is a path.
@@ -115,6 +156,9 @@ pub fn is_path(s: &[u8]) -> bool
     }
     if !path_bytes(s) {
         return false;
+    }
+    if plain_parts(s) {
+        return true;
     }
     parts_pass(s)
 }

@@ -1,4 +1,5 @@
--- `starts_with` meets its contract: before each byte, what is left to compare decides. Assumes nothing.
+-- `starts_with` meets its contract: before each byte, what was compared and what is left to compare decide. Assumes nothing.
+use mathlib.Core.Logic.{⊎-elim}
 use Prim.Native.Nat.{_-_}
 use lib.ListN.{length}
 use Rattle.lists.specs.ByteLoopLaws.{StartsLoop, starts}
@@ -9,14 +10,13 @@ pub starts-with-spec : {M : Type 1} → statement M
 starts-with-spec =
     tie.close
     (tie.spec
-    (λ prefix s i₀ i. StartsLoop prefix s i)
-    (λ prefix s i₀ i. length prefix - i)
+    (λ prefix s same₀ i₀ same i. StartsLoop prefix s i same)
+    (λ prefix s same₀ i₀ same i. length prefix - i)
     (λ c. search starts)
     (λ c. search starts)
     (λ c. search starts)
     (λ c. search starts)
     (λ c. search starts)
     (λ c. search starts)
-    (λ c. search starts)
-    (λ c. search starts)
+    (λ c. ⊎-elim (λ w. search starts) (λ w. search starts) (c .if2 .came))
     (λ c. search starts))

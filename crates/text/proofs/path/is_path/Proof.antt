@@ -1,5 +1,6 @@
 -- `path::is_path` meets its contract: each test that led to a return is one of the rule's. Assumes nothing.
 use Rattle.text.specs.Text.{isPath}
+use Rattle.text.specs.PlainLaws.{plain-told}
 use Rattle.lists.specs.AnswerLaws.{refused, passed}
 use borrow.Author.Needs.{needs}
 use Rattle.text.proofs.path.is_path.Statement.{statement}
@@ -14,5 +15,7 @@ is-path-spec =
     (λ c. search refused)
     (λ c κs. search needs)
     (λ c. search refused)
+    (λ c κs. search needs)
+    (λ c. search (plain-told, passed))
     (λ c κs. search needs)
     (λ c. search passed))
