@@ -1,8 +1,8 @@
 -- A volume, and the volumes, at an epoch end, or as they were where the machine's numbers cannot settle one. Assumes nothing.
-use mathlib.Core.Path.{_≡_, sym, _∙_, ap}
+use mathlib.Core.Path.{_≡_, refl, sym, _∙_, ap}
 use mathlib.Core.Bool.{true, false, not}
 use mathlib.Core.List.{List, map}
-use Prim.Native.Nat.{ℕ, _+_, _<_, _≤_}
+use Prim.Native.Nat.{ℕ, _+_, _<_, _≤_, min}
 use native.Mathlib.Omega.{arith}
 use borrow.Author.Needs.{needs}
 use borrow.Author.Tests.{not-false, lt-ltb, le-ltb}
@@ -13,11 +13,13 @@ use Rattle.lists.specs.ByteLoopLaws.{FillLoop, fill-start, fill-step-of, fill-w
 use Rattle.lists.specs.RowLaws.{rows-length}
 use Rattle.rules.specs.declared.Volume.{Volume}
 use Rattle.rules.specs.declared.Tables.{Tables}
+use Rattle.rules.specs.Rent.{sizeOf}
 use Rattle.rules.specs.Advance.{afterRent, settled}
+use Rattle.rows.specs.Blank.{blankVolume}
 use Rattle.rents.specs.declared.Rent.{Rent}
 use Rattle.rents.specs.declared.Rent.the-variants.{Coins, PastLimits}
-use Rattle.rents.specs.Within.{volumeRent}
-use Rattle.rents.specs.WithinLaws.{rent-exact}
+use Rattle.rents.specs.Within.{rentWithin, rawIn, entryVolume, sizesAt, volumeRent, mostRaw}
+use Rattle.rents.specs.WithinLaws.{rent-exact, raw-listed}
 use Rattle.epochs.specs.declared.SettledRow.{SettledRow}
 use Rattle.epochs.specs.Within.{mostGrace, canSettle, canSettleAll, settledRow, settledRows}
 
@@ -26,42 +28,51 @@ module _ (t : Tables) (v : Volume) where
   unfolding settledRow canSettle settled
   free-stays e = sym (rw (none-given (v .no .0) e))
 
-  -- x is the rent that the code asked for
-  module _ (x : Rent) (some : v .no .0 ≡ 0 → ⊥) (e : x ≡ volumeRent t v) where
+  -- x is the rent that the code asked for, of the rate and the raw bytes that it was given
+  module _ (x : Rent) (rate raw : ℕ) (some : v .no .0 ≡ 0 → ⊥) (g : rate ≡ t .rate) (b : raw ≡ rawIn (v .no) (t .entries))
+      (a : x ≡ rentWithin rate (v .k) (v .m) raw) where
+    rent-is : x ≡ volumeRent t v
+    unfolding volumeRent
+    rent-is = a ∙ rw (g, b)
+
     pub past-limits : x ≡ PastLimits → record { fits = false; row = v } ≡ settledRow t v
     unfolding settledRow canSettle
-    past-limits w = sym (rw (some-given (v .no .0) some, sym e ∙ w))
+    past-limits w = sym (rw (some-given (v .no .0) some, sym rent-is ∙ w))
 
     module _ (rent : ℕ) (w : x ≡ Coins rent) where
       pub grace-full : mostGrace ≤ v .grace → record { fits = false; row = v } ≡ settledRow t v
       unfolding settledRow canSettle
-      grace-full h = sym (rw (some-given (v .no .0) some, sym e ∙ w, le-ltb (v .grace) mostGrace h))
+      grace-full h = sym (rw (some-given (v .no .0) some, sym rent-is ∙ w, le-ltb (v .grace) mostGrace h))
 
       -- y is what the code made of the volume
       pub rent-paid : (y : Volume) → v .grace < mostGrace → y ≡ afterRent rent v → record { fits = true; row = y } ≡ settledRow t v
       unfolding settledRow canSettle settled
       rent-paid y h q =
-          rw q (sym (rw (some-given (v .no .0) some, sym e ∙ w, lt-ltb (v .grace) mostGrace h, ← rent-exact t v rent (sym e ∙ w))))
+          rw q (sym (rw (some-given (v .no .0) some, sym rent-is ∙ w, lt-ltb (v .grace) mostGrace h, ← rent-exact t v rent (sym rent-is ∙ w))))
 
 pub ruleset settles-row = (free-stays, past-limits, grace-full, rent-paid, needs)
 
--- the first i rows can be settled and are stored as they are after
-pub record SettleLoop (t : Tables) (rows : List Volume) (n i : ℕ) (out : List Volume) : Type 0 where
+-- the first i rows can be settled and are stored as they are after; ms and sizes are the entries' volumes and sizes
+pub record SettleLoop (t : Tables) (rows : List Volume) (ms sizes : List ℕ) (n i : ℕ) (out : List Volume) : Type 0 where
+  pub volumes-of : ms ≡ map entryVolume (t .entries)
+  pub sizes-of : sizes ≡ map sizeOf (t .entries)
   pub fitting : AllLoop (canSettle t) rows n i
   pub stored : FillLoop rows 0 (map (settled t) rows) n i out
 
-module _ (t : Tables) (n : ℕ) where
+module _ (t : Tables) (ms sizes : List ℕ) (n : ℕ) where
   abbrev rows : List Volume
   rows = t .volumes
 
-  pub settle-start : length rows ≡ n → SettleLoop t rows n 0 rows
-  settle-start e =
+  pub settle-start : length rows ≡ n → ms ≡ map entryVolume (t .entries) → sizes ≡ map sizeOf (t .entries) → SettleLoop t rows ms sizes n 0 rows
+  settle-start e v z =
       record {
+        volumes-of = v;
+        sizes-of = z;
         fitting = all-start (canSettle t) rows n e;
         stored = fill-start rows 0 (map (settled t) rows) n (omega arith) (least-mapped (settled t) rows n e);
       }
 
-  module _ (i : ℕ) (out : List Volume) (h : SettleLoop t rows n i out) where
+  module _ (i : ℕ) (out : List Volume) (h : SettleLoop t rows ms sizes n i out) where
     pub settle-size : length out ≡ length rows
     settle-size = h .stored .size
 
@@ -72,25 +83,32 @@ module _ (t : Tables) (n : ℕ) where
         let w = fill-whole rows (map (settled t) rows) n i out (h .stored) k (h .fitting .size) (length-mapped (settled t) rows n (h .fitting .size)) in
         rw (← a, w)
 
-    -- x is what the code made of row i
-    module _ (d : Volume) (x : SettledRow) (k : i < n) (e : x ≡ settledRow t (getD rows i d)) where
-      fits-row : x .fits ≡ canSettle t (getD rows i d)
+    -- x is what the code made of row i, with the raw bytes that it added up
+    module _ (x : SettledRow) (raw : ℕ) (k : i < n)
+        (told : (u : Tables) → t .rate ≡ u .rate → raw ≡ rawIn (getD rows i blankVolume .no) (u .entries) → x ≡ settledRow u (getD rows i blankVolume))
+        (r : raw ≡ min (sizesAt (getD rows i blankVolume .no .0) ms sizes) mostRaw) where
+      row-is : x ≡ settledRow t (getD rows i blankVolume)
+      row-is = told t refl (r ∙ rw (h .volumes-of, h .sizes-of) (raw-listed (getD rows i blankVolume .no) (t .entries)))
+
+      fits-row : x .fits ≡ canSettle t (getD rows i blankVolume)
       unfolding settledRow
-      fits-row = ap (λ (y : SettledRow). y .fits) e
+      fits-row = ap (λ (y : SettledRow). y .fits) row-is
 
       pub settle-fails : not (x .fits) ≡ true → record { fits = false; rows = rows } ≡ settledRows t
       unfolding settledRows canSettleAll
-      settle-fails f = let a = all-failed d (canSettle t) rows n i (x .fits) (h .fitting) k fits-row f in rw (← a)
+      settle-fails f = let a = all-failed blankVolume (canSettle t) rows n i (x .fits) (h .fitting) k fits-row f in rw (← a)
 
-      made-row : not (x .fits) ≡ false → x .row ≡ settled t (getD rows i d)
+      made-row : not (x .fits) ≡ false → x .row ≡ settled t (getD rows i blankVolume)
       unfolding settledRow
-      made-row f = ap (λ (y : SettledRow). y .row) e ∙ rw (sym fits-row ∙ not-false (x .fits) f)
+      made-row f = ap (λ (y : SettledRow). y .row) row-is ∙ rw (sym fits-row ∙ not-false (x .fits) f)
 
-      pub settle-step : not (x .fits) ≡ false → SettleLoop t rows n (i + 1) (set out i (x .row))
+      pub settle-step : not (x .fits) ≡ false → SettleLoop t rows ms sizes n (i + 1) (set out i (x .row))
       settle-step f =
           record {
-            fitting = all-step d (canSettle t) rows n i (x .fits) (h .fitting) k fits-row f;
-            stored = fill-step-of (settled t) d rows rows n i out (x .row) (h .stored) k (made-row f);
+            volumes-of = h .volumes-of;
+            sizes-of = h .sizes-of;
+            fitting = all-step blankVolume (canSettle t) rows n i (x .fits) (h .fitting) k fits-row f;
+            stored = fill-step-of (settled t) blankVolume rows rows n i out (x .row) (h .stored) k (made-row f);
           }
 
 pub ruleset settles = (settle-step, settle-fails, settle-end, settle-size, settle-start, rows-length, needs)

@@ -1,50 +1,62 @@
 -- The loop that adds up a volume's bytes, in a sum that stays at 2^64 - 1 where it would pass it. Assumes nothing.
-use mathlib.Core.Path.{_≡_}
+use mathlib.Core.Path.{_≡_, refl, _∙_}
 use mathlib.Core.Bool.{Bool, true, false, cond}
-use mathlib.Core.List.{List}
+use mathlib.Core.List.{List, [], _∷_, map}
 use Prim.Native.Nat.{ℕ, _+_, _<_, _≤_, min}
 use native.Mathlib.Numerals.{add-one}
 use native.Mathlib.Omega.{arith}
 use borrow.Author.Needs.{needs}
 use lib.ListN.{length, drop, getD, drop-of-length-le}
 use lib.Seq.{drop-cons}
-use Rattle.lists.specs.Lists.{sumOf}
-use Rattle.lists.specs.RowLaws.{rows-length}
 use Rattle.rules.specs.declared.VolumeNo.{VolumeNo}
 use Rattle.rules.specs.declared.Entry.{Entry}
 use Rattle.rules.specs.Tables.{numbered}
-use Rattle.rows.specs.Blank.{blankEntry}
-use Rattle.rents.specs.Within.{mostRaw, rawIn}
-use Rattle.rents.specs.WithinLaws.{bytesIn, raw-sum}
+use Rattle.rules.specs.Rent.{sizeOf}
+use Rattle.rents.specs.Within.{mostRaw, rawIn, entryVolume, sizesAt}
+use Rattle.rents.specs.WithinLaws.{raw-listed}
 
--- what was added so far, with the bytes of the entries from i on, is the whole
-pub record RawLoop (n : VolumeNo) (es : List Entry) (i sum : ℕ) : Type 0 where
-  pub size : length es ≡ 64
+-- no sizes, no sum
+none-at : (n : ℕ) (ms : List ℕ) → sizesAt n ms [] ≡ 0
+unfolding sizesAt
+none-at n [] = refl
+none-at n (m ∷ ms) = refl
+
+-- what was added so far, with the sizes from i on, is the whole
+pub record RawLoop (n : ℕ) (ms sizes : List ℕ) (i sum : ℕ) : Type 0 where
   pub few : sum ≤ mostRaw
-  pub rest : min (sum + sumOf (bytesIn n) (drop i es)) mostRaw ≡ rawIn n es
+  pub rest : min (sum + sizesAt n (drop i ms) (drop i sizes)) mostRaw ≡ min (sizesAt n ms sizes) mostRaw
 
-module _ (n : VolumeNo) (es : List Entry) where
-  pub raw-start : length es ≡ 64 → RawLoop n es 0 0
-  raw-start e = record { size = e; few = omega arith; rest = omega (arith, raw-sum n es) }
+module _ (n : ℕ) (ms sizes : List ℕ) where
+  pub raw-start : RawLoop n ms sizes 0 0
+  raw-start = record { few = omega arith; rest = omega arith }
 
-  module _ (i sum : ℕ) (h : RawLoop n es i sum) where
-    pub raw-end : 64 ≤ i → sum ≡ rawIn n es
-    unfolding sumOf
+  module _ (i sum : ℕ) (h : RawLoop n ms sizes i sum) where
+    pub raw-end : length ms ≤ i → sum ≡ min (sizesAt n ms sizes) mostRaw
+    unfolding sizesAt
     raw-end k =
-        let z : sumOf (bytesIn n) (drop i es) ≡ 0 = rw (drop-of-length-le es {i = i} (omega (arith, h .size))) in
+        let z : sizesAt n (drop i ms) (drop i sizes) ≡ 0 = rw (drop-of-length-le ms {i = i} k) in
         omega (arith, h .rest, h .few)
 
-    -- b is what the code said of entry i, and next the sum after it
-    module _ (b : Bool) (next : ℕ) (k : i < 64) (e : b ≡ numbered (n .0) (getD es i blankEntry .volume .0)) where
-      first : sumOf (bytesIn n) (drop i es) ≡ cond b (getD es i blankEntry .size) 0 + sumOf (bytesIn n) (drop (i + 1) es)
-      unfolding sumOf
-      first = rw (add-one i, drop-cons es i blankEntry (omega (arith, h .size)), e)
+    pub raw-short : length sizes ≤ i → sum ≡ min (sizesAt n ms sizes) mostRaw
+    raw-short k =
+        let z : sizesAt n (drop i ms) (drop i sizes) ≡ 0 = rw (drop-of-length-le sizes {i = i} k) (none-at n (drop i ms)) in
+        omega (arith, h .rest, h .few)
 
-      pub raw-adds : (got : ℕ) → b ≡ true → next ≡ got → got ≡ min (sum + getD es i blankEntry .size) mostRaw → RawLoop n es (i + 1) next
-      raw-adds got t f g =
-          record { size = h .size; few = omega arith; rest = omega (arith, h .rest, h .few, rw t at first) }
+    -- b is what the code said of number i, and next the sum after it
+    module _ (b : Bool) (next : ℕ) (k : i < length ms) (l : i < length sizes) (e : b ≡ numbered n (getD ms i 0)) where
+      first : sizesAt n (drop i ms) (drop i sizes) ≡ cond b (getD sizes i 0) 0 + sizesAt n (drop (i + 1) ms) (drop (i + 1) sizes)
+      unfolding sizesAt
+      first = rw (add-one i, drop-cons ms i 0 k, drop-cons sizes i 0 l, e)
 
-      pub raw-skips : b ≡ false → next ≡ sum → RawLoop n es (i + 1) next
-      raw-skips t f = record { size = h .size; few = omega (arith, h .few); rest = omega (arith, h .rest, rw t at first) }
+      pub raw-adds : (got : ℕ) → b ≡ true → next ≡ got → got ≡ min (sum + getD sizes i 0) mostRaw → RawLoop n ms sizes (i + 1) next
+      raw-adds got t f g = record { few = omega arith; rest = omega (arith, h .rest, h .few, rw t at first) }
 
-pub ruleset raws = (raw-adds, raw-skips, raw-end, raw-start, rows-length, needs)
+      pub raw-skips : b ≡ false → next ≡ sum → RawLoop n ms sizes (i + 1) next
+      raw-skips t f = record { few = omega (arith, h .few); rest = omega (arith, h .rest, rw t at first) }
+
+pub ruleset raws = (raw-adds, raw-skips, raw-end, raw-short, raw-start, needs)
+
+-- the sum from the lists of the entries' numbers and sizes
+pub raw-of : (n : VolumeNo) (es : List Entry) (ms sizes : List ℕ) (r : ℕ) → ms ≡ map entryVolume es → sizes ≡ map sizeOf es
+    → r ≡ min (sizesAt (n .0) ms sizes) mostRaw → r ≡ rawIn n es
+raw-of n es ms sizes r e f q = q ∙ rw (e, f) (raw-listed n es)

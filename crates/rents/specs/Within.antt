@@ -9,6 +9,7 @@ use Rattle.rules.specs.declared.VolumeNo.{VolumeNo}
 use Rattle.rules.specs.declared.Volume.{Volume}
 use Rattle.rules.specs.declared.Entry.{Entry}
 use Rattle.rules.specs.declared.Tables.{Tables}
+use Rattle.rules.specs.Tables.{numbered}
 use Rattle.rules.specs.Rent.{sizesIn, effective, rentOf}
 use Rattle.rules.specs.Sound.{shardsFit}
 use Rattle.rents.specs.declared.Rent.{Rent}
@@ -33,6 +34,16 @@ rentWithin rate k m raw = cond (shardsFit k m && leb raw rawLimit) (Coins (rentO
 -- a volume's raw bytes, as a sum that stays at 2^64 - 1 where it would pass it
 abbrev pub rawIn : VolumeNo → List Entry → ℕ
 rawIn n es = min (total (sizesIn n es)) mostRaw
+
+-- the number of an entry's volume
+abbrev pub entryVolume : Entry → ℕ
+entryVolume e = e .volume .0
+
+-- the sizes at the places where the number is n, added up; the shorter list ends it
+unfoldable pub sizesAt : ℕ → List ℕ → List ℕ → ℕ
+sizesAt n [] sizes = 0
+sizesAt n (m ∷ ms) [] = 0
+sizesAt n (m ∷ ms) (size ∷ sizes) = cond (numbered n m) size 0 + sizesAt n ms sizes
 
 -- one epoch's rent of a volume as it stands
 unfoldable pub volumeRent : Tables → Volume → Rent

@@ -2,8 +2,8 @@
 -- Assumes nothing.
 use mathlib.Core.Path.{_≡_, refl, sym, _∙_}
 use mathlib.Core.Bool.{Bool, true, false, cond, _&&_}
-use mathlib.Core.List.{List, [], _∷_}
-use Prim.Native.Nat.{ℕ, _+_, _-_, _<_, _≤_}
+use mathlib.Core.List.{List, [], _∷_, map}
+use Prim.Native.Nat.{ℕ, _+_, _-_, _<_, _≤_, min}
 use native.Mathlib.Omega.{arith}
 use borrow.Author.Tests.{le-leb, leb-true}
 use lib.Dec.{leb}
@@ -25,7 +25,7 @@ use Rattle.rules.specs.Laws.NumberLaws.{numbered-used}
 use Rattle.rules.specs.Laws.RowFacts.{volume-facts, entry-facts}
 use Rattle.rules.specs.Laws.SoundParts.{parts-of}
 use Rattle.rents.specs.declared.Rent.the-variants.{Coins, PastLimits}
-use Rattle.rents.specs.Within.{rawLimit, rentWithin, rawIn, volumeRent}
+use Rattle.rents.specs.Within.{rawLimit, mostRaw, rentWithin, rawIn, entryVolume, sizesAt, volumeRent}
 
 -- the effective size of one object of so many bytes is that of objects which have them together
 effective-total : (k m raw : ℕ) (sizes : List ℕ) → total sizes ≡ raw → effective k m (raw ∷ []) ≡ effective k m sizes
@@ -58,6 +58,15 @@ bytesIn n e = cond (inVolume n e) (e .size) 0
 pub raw-sum : (n : VolumeNo) (es : List Entry) → total (sizesIn n es) ≡ sumOf (bytesIn n) es
 unfolding sizesIn
 raw-sum n es = sym (sum-total sizeOf (keep (inVolume n) es)) ∙ sum-keep sizeOf (bytesIn n) (inVolume n) es (λ e. refl)
+
+-- the lists of the entries' numbers and sizes give a volume's bytes
+sizes-of : (n : VolumeNo) (es : List Entry) → sizesAt (n .0) (map entryVolume es) (map sizeOf es) ≡ sumOf (bytesIn n) es
+unfolding sizesAt sumOf
+sizes-of n [] = refl
+sizes-of n (e ∷ es) = rw (sizes-of n es)
+
+pub raw-listed : (n : VolumeNo) (es : List Entry) → min (sizesAt (n .0) (map entryVolume es) (map sizeOf es)) mostRaw ≡ rawIn n es
+raw-listed n es = rw (sizes-of n es, raw-sum n es)
 
 -- a sum that is within the limit is exact
 pub raw-exact : (n : VolumeNo) (es : List Entry) → rawIn n es ≤ rawLimit → total (sizesIn n es) ≡ rawIn n es
