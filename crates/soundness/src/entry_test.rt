@@ -1,16 +1,12 @@
 // The entry table, row by row and against itself.
 ghost use mathlib.Core.Path.{_≡_};
 ghost use mathlib.Core.List.{map};
-ghost use Prim.Native.Nat.{_+_, _<_};
-ghost use lib.ListN.{drop, getD};
-ghost use Rattle.lists.specs.Lists.{allOf, anyOf, noClash, find};
-ghost use Rattle.rows.specs.Blank.{blankEntry};
+ghost use Rattle.lists.specs.Lists.{allOf, noClash, find};
 ghost use Rattle.soundness.specs.PathKeys.{pathKey};
 ghost use Rattle.rules.specs.declared.Tables.{Tables};
 ghost use Rattle.rules.specs.Tables.{isVolume};
 ghost use Rattle.rules.specs.Sound.{soundIn, soundEntry, soundEntries, sameEntry};
 use super::numbers::any_number;
-use super::numbers::number_again;
 use super::path_keys::path_keys;
 use super::placements::sound_placement;
 use lists::Found;
@@ -80,31 +76,7 @@ fn same_entry(a: Entry, b: Entry) -> bool
     same_texts(x, y)
 }
 
-// Whether a row from an index on has the same volume and path.
-fn path_again(rows: [Entry; 64], a: Entry, start: usize) -> bool
-    ensures { λ r. ⌜ r ≡ anyOf (sameEntry a) (drop start rows) ⌝ }
-{
-    let mut i = start;
-    while i < 64 {
-        let b = rows[i];
-        if same_entry(a, b) {
-            return true;
-        }
-        i += 1;
-    }
-    false
-}
-
-// Whether a row after this one has the same volume and path.
-fn clashes_at(rows: [Entry; 64], i: usize) -> bool
-    requires { ⌜ i < 64 ⌝ }
-    ensures { λ r. ⌜ r ≡ anyOf (sameEntry (getD rows i blankEntry)) (drop (i + 1) rows) ⌝ }
-{
-    let e = rows[i];
-    path_again(rows, e, i + 1)
-}
-
-// No volume's path is held twice, where these are the entries' keys.
+// No volume's path is held twice, where these are the entries' keys: only rows of the same key are compared.
 fn paths_differ(rows: [Entry; 64], keys: [u64; 64]) -> bool
     requires { ⌜ keys ≡ map pathKey rows ⌝ }
     ensures { λ r. ⌜ r ≡ noClash sameEntry rows ⌝ }
@@ -112,9 +84,17 @@ fn paths_differ(rows: [Entry; 64], keys: [u64; 64]) -> bool
     let mut i: usize = 0;
     while i < 64 {
         let key = keys[i];
-        if number_again(&keys, key, i + 1) {
-            if clashes_at(rows, i) {
-                return false;
+        if key != 0 {
+            let mut j = i + 1;
+            while j < 64 {
+                if keys[j] == key {
+                    let a = rows[i];
+                    let b = rows[j];
+                    if same_entry(a, b) {
+                        return false;
+                    }
+                }
+                j += 1;
             }
         }
         i += 1;
