@@ -1,15 +1,15 @@
 // An entry's placement: its relays' numbers were given, and no two are the same.
 ghost use mathlib.Core.Path.{_≡_};
-ghost use Prim.Native.Nat.{min};
+ghost use Prim.Native.Nat.{_+_, min};
 ghost use lib.ListN.{drop, take};
 ghost use Rattle.lists.specs.Lists.{allOf, anyOf, noClash};
 ghost use Rattle.rules.specs.declared.Tables.{Tables};
+ghost use Rattle.rules.specs.declared.Volume.{Volume};
 ghost use Rattle.rules.specs.Relays.{sameRelay};
 ghost use Rattle.rules.specs.Sound.{relayGiven, soundPlacement};
 use rows::is_given;
 use rules::Placement;
 use rules::RelayNo;
-use rules::Volume;
 
 pub(crate) fn least(a: usize, b: usize) -> usize
     ensures { λ r. ⌜ r ≡ min a b ⌝ }
@@ -64,12 +64,12 @@ fn relays_differ(relays: [RelayNo; 24], len: usize) -> bool
     true
 }
 
-// K+M different relays.
-pub(crate) fn sound_placement(v: Volume, p: Placement, last: u32) -> bool
-    ensures { λ r. ⌜ ((t : Tables) → t .«last_relay» ≡ last → r ≡ soundPlacement t v p) ⌝ }
+// K+M different relays: `width` is K+M.
+pub(crate) fn sound_placement(width: usize, p: Placement, last: u32) -> bool
+    ensures { λ r. ⌜ ((t : Tables) (v : Volume) → t .«last_relay» ≡ last → v .k + v .m ≡ width → r ≡ soundPlacement t v p) ⌝ }
 {
     let len = p.len;
-    if len != (v.k as usize) + (v.m as usize) {
+    if len != width {
         return false;
     }
     let relays = p.relays;

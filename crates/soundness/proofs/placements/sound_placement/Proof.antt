@@ -10,11 +10,8 @@ unfolding soundPlacement
 sound-placement-spec =
     tie.close
     (tie.spec
-    (λ c. search needs)
-    (λ c. search needs)
-    (λ c. search needs)
-    (λ c t e. search refused)
+    (λ c t v e f. rw f (search refused))
     (λ c κs. search needs)
-    (λ c t e. search (relays-told, refused))
+    (λ c t v e f. rw f (search (relays-told, refused)))
     (λ c κs. search needs)
-    (λ c t e. search (relays-told, passed)))
+    (λ c t v e f. rw f (search (relays-told, passed))))
