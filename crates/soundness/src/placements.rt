@@ -7,6 +7,7 @@ ghost use Rattle.rules.specs.declared.Tables.{Tables};
 ghost use Rattle.rules.specs.declared.Volume.{Volume};
 ghost use Rattle.rules.specs.Relays.{sameRelay};
 ghost use Rattle.rules.specs.Sound.{relayGiven, soundPlacement};
+ghost use Rattle.soundness.specs.Places.{placeNumbers, sameNumber};
 use rows::is_given;
 use rules::Placement;
 use rules::RelayNo;
@@ -15,6 +16,36 @@ pub(crate) fn least(a: usize, b: usize) -> usize
     ensures { λ r. ⌜ r ≡ min a b ⌝ }
 {
     if a < b { a } else { b }
+}
+
+// The numbers of a placement's relays: 0 past the last of them.
+pub(crate) fn place_numbers(p: Placement) -> [u32; 24]
+    ensures { λ r. ⌜ r ≡ placeNumbers p ⌝ }
+{
+    let relays = p.relays;
+    let n = least(p.len, 24);
+    let mut numbers = [0u32; 24];
+    let mut i: usize = 0;
+    while i < n {
+        numbers[i] = relays[i].0;
+        i += 1;
+    }
+    numbers
+}
+
+// Whether one of the numbers is n: no early exit, so that the compiler compares many at once.
+pub(crate) fn among(numbers: &[u32], n: u32) -> bool
+    ensures { λ r. ⌜ r ≡ anyOf (sameNumber n) (now (numbers .entry)) ⌝ }
+{
+    let mut found = false;
+    let mut i: usize = 0;
+    while i < numbers.len() {
+        if numbers[i] == n {
+            found = true;
+        }
+        i += 1;
+    }
+    found
 }
 
 // Of the first `len` places.

@@ -8,8 +8,9 @@ ghost use Rattle.rules.specs.Sound.{soundVolumes, soundEntries, soundRelay, sou
 use super::numbers::any_number;
 use super::numbers::numbers_differ;
 use super::numbers::relay_numbers;
+use super::placements::among;
 use super::shards::Load;
-use super::shards::has_shard;
+use super::shards::all_places;
 use super::shards::shard_sizes;
 use rows::is_given;
 use rules::Relay;
@@ -48,6 +49,8 @@ fn relays_hold(t: Tables, sizes: [u64; 64]) -> bool
     ensures { λ r. ⌜ r ≡ soundRelays t ⌝ }
 {
     let rows = t.relays;
+    let entries = t.entries;
+    let places = all_places(entries);
     let mut i: usize = 0;
     while i < 32 {
         let x = rows[i];
@@ -57,8 +60,7 @@ fn relays_hold(t: Tables, sizes: [u64; 64]) -> bool
             let mut shards: u32 = 0;
             let mut j: usize = 0;
             while j < 64 {
-                let e = t.entries[j];
-                if has_shard(e, n) {
+                if among(&places[j][..], n.0) {
                     bytes += sizes[j];
                     shards += 1;
                 }

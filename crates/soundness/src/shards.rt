@@ -1,22 +1,20 @@
-// The bytes of each entry's shards, and whether an entry has one on a relay.
+// The bytes of each entry's shards, and the relays that they are on.
 ghost use mathlib.Core.Path.{_≡_};
-ghost use mathlib.Core.Bool.{_&&_};
 ghost use mathlib.Core.List.{List, map};
 ghost use lib.ListN.{length};
 ghost use Rattle.rules.specs.declared.Entry.{Entry};
 ghost use Rattle.rules.specs.declared.Volume.{Volume};
-ghost use Rattle.rules.specs.Tables.{usedEntry};
-ghost use Rattle.rules.specs.Relays.{shardBytes, holdsShard};
+ghost use Rattle.rules.specs.Relays.{shardBytes};
 ghost use Rattle.soundness.specs.Numbers.{volumeNumber, volumeK};
+ghost use Rattle.soundness.specs.Places.{placesOf};
 use super::numbers::next_number;
 use super::numbers::volume_ks;
 use super::numbers::volume_numbers;
 use super::numbers::wide;
-use super::placements::relay_again;
+use super::placements::place_numbers;
 use lists::Found;
 use rows::shard_size;
 use rules::Entry;
-use rules::RelayNo;
 use rules::Tables;
 
 // The bytes and the shards that a relay has.
@@ -55,14 +53,27 @@ pub(crate) fn shard_sizes(t: Tables) -> [u64; 64]
     sizes
 }
 
-// Whether the entry has a shard on this relay.
-pub(crate) fn has_shard(e: Entry, n: RelayNo) -> bool
-    ensures { λ r. ⌜ r ≡ (usedEntry e && holdsShard n (e .placement)) ⌝ }
+// The relays' numbers of an entry's places: 0 where there is no shard.
+fn places_of(e: Entry) -> [u32; 24]
+    ensures { λ r. ⌜ r ≡ placesOf e ⌝ }
 {
     if e.volume.0 == 0 {
-        return false;
+        return [0u32; 24];
     }
     let p = e.placement;
-    let relays = p.relays;
-    relay_again(relays, p.len, n, 0)
+    place_numbers(p)
+}
+
+pub(crate) fn all_places(rows: [Entry; 64]) -> [[u32; 24]; 64]
+    ensures { λ r. ⌜ r ≡ map placesOf rows ⌝ }
+{
+    let none = [0u32; 24];
+    let mut places = [none; 64];
+    let mut i: usize = 0;
+    while i < 64 {
+        let e = rows[i];
+        places[i] = places_of(e);
+        i += 1;
+    }
+    places
 }
