@@ -58,9 +58,6 @@ module _ (t : Tables) (b : Bool) where
   pub parent-told : (k : Token) (rows : List Token) → ((u : Tables) → u .tokens ≡ rows → b ≡ parentThere u k) → t .tokens ≡ rows → b ≡ parentThere t k
   parent-told k rows f e = f t e
 
-  pub relays-told : (l : List RelayNo) (last : ℕ) → ((u : Tables) → u .«last_relay» ≡ last → b ≡ allOf (relayGiven u) l) → t .«last_relay» ≡ last → b ≡ allOf (relayGiven t) l
-  relays-told l last f e = f t e
-
 -- an entry's placement, where the search for its volume's number m found none, or the one at i
 module _ (t : Tables) (p : Placement) (n : VolumeNo) (m : ℕ) (ns : List ℕ) (f : Found) (e : f ≡ firstAt (numbered m) 0 ns) (same : m ≡ n .0)
     (k : ns ≡ map volumeNumber (t .volumes)) where

@@ -1,16 +1,13 @@
 // An entry's placement: its relays' numbers were given, and no two are the same.
 ghost use mathlib.Core.Path.{_≡_};
 ghost use Prim.Native.Nat.{_+_, min};
-ghost use lib.ListN.{drop, take};
 ghost use Rattle.lists.specs.Lists.{allOf, anyOf, noClash};
 ghost use Rattle.rules.specs.declared.Tables.{Tables};
 ghost use Rattle.rules.specs.declared.Volume.{Volume};
-ghost use Rattle.rules.specs.Relays.{sameRelay};
-ghost use Rattle.rules.specs.Sound.{relayGiven, soundPlacement};
+ghost use Rattle.rules.specs.Sound.{isGiven, soundPlacement};
 ghost use Rattle.soundness.specs.Places.{placeNumbers, sameNumber};
 use rows::is_given;
 use rules::Placement;
-use rules::RelayNo;
 
 pub(crate) fn least(a: usize, b: usize) -> usize
     ensures { λ r. ⌜ r ≡ min a b ⌝ }
@@ -48,46 +45,26 @@ pub(crate) fn among(numbers: &[u32], n: u32) -> bool
     found
 }
 
-// Of the first `len` places.
-fn relays_given(relays: [RelayNo; 24], len: usize, last: u32) -> bool
-    ensures { λ r. ⌜ ((t : Tables) → t .«last_relay» ≡ last → r ≡ allOf (relayGiven t) (take len relays)) ⌝ }
+fn all_given(numbers: &[u32], last: u32) -> bool
+    ensures { λ r. ⌜ r ≡ allOf (isGiven last) (now (numbers .entry)) ⌝ }
 {
-    let n = least(len, 24);
+    let mut all = true;
     let mut i: usize = 0;
-    while i < n {
-        let x = relays[i];
-        if !is_given(last, x.0) {
-            return false;
+    while i < numbers.len() {
+        if !is_given(last, numbers[i]) {
+            all = false;
         }
         i += 1;
     }
-    true
+    all
 }
 
-// Whether a place from an index on is of this relay.
-pub(crate) fn relay_again(relays: [RelayNo; 24], len: usize, x: RelayNo, start: usize) -> bool
-    ensures { λ r. ⌜ r ≡ anyOf (sameRelay x) (drop start (take len relays)) ⌝ }
+fn all_differ(numbers: &[u32]) -> bool
+    ensures { λ r. ⌜ r ≡ noClash sameNumber (now (numbers .entry)) ⌝ }
 {
-    let n = least(len, 24);
-    let mut i = start;
-    while i < n {
-        let y = relays[i];
-        if y.0 == x.0 {
-            return true;
-        }
-        i += 1;
-    }
-    false
-}
-
-fn relays_differ(relays: [RelayNo; 24], len: usize) -> bool
-    ensures { λ r. ⌜ r ≡ noClash sameRelay (take len relays) ⌝ }
-{
-    let n = least(len, 24);
     let mut i: usize = 0;
-    while i < n {
-        let x = relays[i];
-        if relay_again(relays, len, x, i + 1) {
+    while i < numbers.len() {
+        if among(&numbers[i + 1..], numbers[i]) {
             return false;
         }
         i += 1;
@@ -103,9 +80,10 @@ pub(crate) fn sound_placement(width: usize, p: Placement, last: u32) -> bool
     if len != width {
         return false;
     }
-    let relays = p.relays;
-    if !relays_given(relays, len, last) {
+    let numbers = place_numbers(p);
+    let n = least(len, 24);
+    if !all_given(&numbers[..n], last) {
         return false;
     }
-    relays_differ(relays, len)
+    all_differ(&numbers[..n])
 }
