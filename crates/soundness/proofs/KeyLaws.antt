@@ -11,8 +11,8 @@ use borrow.Author.Tests.{not-true, ltb-true, ltb-false, lt-ltb, eqb-true, eq-eqb
 use native.Mathlib.Omega.{arith}
 use native.Mathlib.Numerals.{add-one}
 use lib.Dec.{eqb}
-use lib.ListN.{length, take, drop, getD, set, replicate, drop-of-length-le, length-map, length-drop, length-take}
-use lib.Seq.{drop-cons, getD-take, getD-drop}
+use lib.ListN.{length, take, drop, getD, set, replicate, drop-of-length-le, length-map, length-take}
+use lib.Seq.{drop-cons, getD-take}
 use Rattle.lists.specs.Bytes.{sameBytes}
 use Rattle.lists.specs.ByteLaws.{same-eq}
 use Rattle.lists.specs.BoolLaws.{and-left, and-right, and-both, not-both, not-pass, pass-or-fail}

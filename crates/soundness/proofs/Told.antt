@@ -12,9 +12,8 @@ use Rattle.rules.specs.Limits.{deepest, usedLimit}
 use Rattle.rules.specs.Scope.{capFits, depth}
 use Rattle.lists.specs.declared.Found.{Found}
 use Rattle.lists.specs.declared.Found.the-variants.{At, Nothing}
-use Rattle.lists.specs.Lists.{firstAt, find, allOf, anyOf}
+use Rattle.lists.specs.Lists.{firstAt, find, anyOf}
 use Rattle.lists.specs.SearchLaws.{first-row, first-miss, first-below}
-use Rattle.rules.specs.declared.RelayNo.{RelayNo}
 use Rattle.rules.specs.declared.VolumeNo.{VolumeNo}
 use Rattle.rules.specs.Tables.{numbered, isVolume}
 use Rattle.rows.specs.Blank.{blankVolume, blankRelay}
@@ -28,7 +27,7 @@ use Rattle.rules.specs.declared.Relay.{Relay}
 use Rattle.rules.specs.declared.Session.{Session}
 use Rattle.rules.specs.declared.Status.{Status}
 use Rattle.rules.specs.declared.Tables.{Tables}
-use Rattle.rules.specs.Sound.{sameName, soundGrace, soundVolumes, soundEntries, soundVolume, soundToken, soundEntry, soundRelay, soundSession, soundIn, parentThere, relayGiven, soundPlacement, isGiven, volumeThere}
+use Rattle.rules.specs.Sound.{sameName, soundGrace, soundVolumes, soundEntries, soundVolume, soundToken, soundEntry, soundRelay, soundSession, soundIn, parentThere, soundPlacement, isGiven, volumeThere}
 use Rattle.soundness.specs.Numbers.{volumeNumber, volumeWidth}
 use Rattle.soundness.proofs.NextLaws.{in-rows, field-at}
 

@@ -45,6 +45,7 @@ pub(crate) fn among(numbers: &[u32], n: u32) -> bool
     found
 }
 
+// Every number was given: no early exit either.
 fn all_given(numbers: &[u32], last: u32) -> bool
     ensures { λ r. ⌜ r ≡ allOf (isGiven last) (now (numbers .entry)) ⌝ }
 {
@@ -59,6 +60,7 @@ fn all_given(numbers: &[u32], last: u32) -> bool
     all
 }
 
+// No two numbers are the same.
 fn all_differ(numbers: &[u32]) -> bool
     ensures { λ r. ⌜ r ≡ noClash sameNumber (now (numbers .entry)) ⌝ }
 {

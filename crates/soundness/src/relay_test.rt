@@ -42,7 +42,7 @@ fn sound_relay(t: Tables, x: Relay, load: Load) -> bool
     x.held == load.shards
 }
 
-// Of tables whose shards have these sizes. A relay's load is summed here and by no function of its own, which would copy the entries
+// Of tables whose shards have these sizes. A relay's load is summed here and by no function of its own, which would copy the places
 // for each relay.
 fn relays_hold(t: Tables, sizes: [u64; 64]) -> bool
     requires { ⌜ (sizes ≡ map (shardBytes (t .volumes)) (t .entries)) × (soundVolumes t ≡ true) × (soundEntries t ≡ true) ⌝ }

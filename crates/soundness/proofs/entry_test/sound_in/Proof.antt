@@ -1,4 +1,3 @@
-use Rattle.rules.specs.Sound.{soundIn}
 use Rattle.lists.specs.AnswerLaws.{in-table}
 use Rattle.soundness.proofs.Told.{placed-none, placed-at}
 use borrow.Author.Needs.{needs}
