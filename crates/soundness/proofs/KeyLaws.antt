@@ -11,15 +11,16 @@ use borrow.Author.Tests.{not-true, ltb-true, ltb-false, lt-ltb, eqb-true, eq-eqb
 use native.Mathlib.Omega.{arith}
 use native.Mathlib.Numerals.{add-one}
 use lib.Dec.{eqb}
-use lib.ListN.{length, take, drop, getD, set, replicate, drop-of-length-le, length-map, length-drop, length-take}
-use lib.Seq.{drop-cons, getD-take, getD-drop}
+use lib.ListN.{length, take, drop, getD, set, replicate, drop-of-length-le, length-map, length-take}
+use lib.Seq.{drop-cons, getD-take}
 use Rattle.lists.specs.Bytes.{sameBytes}
 use Rattle.lists.specs.ByteLaws.{same-eq}
 use Rattle.lists.specs.BoolLaws.{and-left, and-right, and-both, not-both, not-pass, pass-or-fail}
-use Rattle.lists.specs.Lists.{anyOf}
+use Rattle.lists.specs.Lists.{anyOf, noClash}
 use Rattle.lists.specs.TestLaws.{at-none, none-at, at-all, at-clash}
 use Rattle.lists.specs.RowLaws.{map-row}
-use Rattle.lists.specs.LoopLaws.{ClashLoop, clash-step, part-length}
+use Rattle.lists.specs.AnswerLaws.{part-fails}
+use Rattle.lists.specs.LoopLaws.{AnyLoop, any-found, any-step, any-none, ClashLoop, clash-found, clash-step, part-length}
 use Rattle.lists.specs.ByteLoopLaws.{FillLoop}
 use Rattle.text.specs.Text.{textBytes}
 use Rattle.rules.specs.declared.Entry.{Entry}
@@ -90,29 +91,44 @@ same-key a b h =
     let y = used-key b (omega arith) in
     and-both (lt-ltb 0 (pathKey a) (omega (arith, z, key-least n (textBytes (a .path))))) (eq-eqb (pathKey b) (pathKey a) (y ∙ k ∙ sym z))
 
--- so where no later key is an entry's, no later entry has its volume and path
-no-clash : (es : List Entry) (ks : List ℕ) (i : ℕ) → ks ≡ map pathKey es → i < length es → anyOf (numbered (getD ks i 0)) (drop (i + 1) ks) ≡ false
-    → anyOf (sameEntry (getD es i blankEntry)) (drop (i + 1) es) ≡ false
-no-clash es ks i e k h = at-none (sameEntry (getD es i blankEntry)) (drop (i + 1) es) blankEntry differs
-  where
-    key : (j : ℕ) → j < length es → getD ks j 0 ≡ pathKey (getD es j blankEntry)
-    key j w = ap (λ (l : List ℕ). getD l j 0) e ∙ map-row pathKey es j blankEntry 0 w
+other-key : (a b : Entry) → false ≡ numbered (pathKey a) (pathKey b) → sameEntry a b ≡ false
+other-key a b h = not-pass (sameEntry a b) (λ t. not-both (same-key a b t) (sym h))
 
-    differs : (j : ℕ) → j < length (drop (i + 1) es) → sameEntry (getD es i blankEntry) (getD (drop (i + 1) es) j blankEntry) ≡ false
-    differs j w =
-        let x = i + 1 + j in
-        let below : x < length es = omega (arith, length-drop (i + 1) es) in
-        let size : length ks ≡ length es = ap (λ (l : List ℕ). length l) e ∙ length-map es pathKey in
-        let other = none-at (numbered (getD ks i 0)) (drop (i + 1) ks) h j (omega (arith, size, length-drop (i + 1) ks)) 0 in
-        let apart : numbered (pathKey (getD es i blankEntry)) (pathKey (getD es x blankEntry)) ≡ false =
-        rw (key i k, getD-drop (i + 1) ks j 0, key x below) at other in
-        rw (getD-drop (i + 1) es j blankEntry)
-        (not-pass (sameEntry (getD es i blankEntry) (getD es x blankEntry)) (λ t. not-both (same-key (getD es i blankEntry) (getD es x blankEntry) t) apart))
+-- the loops over the paths, at the row i of es, which has the key at i of ks, and at the later row j
+module _ (es : List Entry) (i : ℕ) (h : ClashLoop sameEntry es 64 i) (k : i < 64) where
+  -- row j is compared with row i, and they are the same
+  pub path-again : (j : ℕ) (b : Bool) → AnyLoop (sameEntry (getD es i blankEntry)) es (i + 1) 64 j → j < 64
+      → b ≡ sameEntry (getD es i blankEntry) (getD es j blankEntry) → b ≡ true → false ≡ noClash sameEntry es
+  path-again j b l w e t =
+      clash-found blankEntry sameEntry es 64 i true h k (any-found blankEntry (sameEntry (getD es i blankEntry)) es (i + 1) 64 j b l w e t) refl
 
--- a turn of the loop over the paths, where no later key is the same
-pub key-differs : (es : List Entry) (ks : List ℕ) (i : ℕ) (b : Bool) → ClashLoop sameEntry es 64 i → i < 64 → ks ≡ map pathKey es
-    → b ≡ anyOf (numbered (getD ks i 0)) (drop (i + 1) ks) → b ≡ false → ClashLoop sameEntry es 64 (i + 1)
-key-differs es ks i b h k e q w = clash-step blankEntry sameEntry es 64 i false h k (sym (no-clash es ks i e (omega (arith, h .size)) (sym q ∙ w))) refl
+  -- no later row is the same
+  pub path-once : (j : ℕ) → AnyLoop (sameEntry (getD es i blankEntry)) es (i + 1) 64 j → 64 ≤ j → ClashLoop sameEntry es 64 (i + 1)
+  path-once j l w = clash-step blankEntry sameEntry es 64 i false h k (any-none (sameEntry (getD es i blankEntry)) es (i + 1) 64 j l w) refl
+
+  module _ (ks : List ℕ) (e : ks ≡ map pathKey es) where
+    key-at : (j : ℕ) → j < 64 → getD ks j 0 ≡ pathKey (getD es j blankEntry)
+    key-at j w = ap (λ (l : List ℕ). getD l j 0) e ∙ map-row pathKey es j blankEntry 0 (omega (arith, h .size))
+
+    -- a row of key 0 is the same as none
+    pub no-path : getD ks i 0 ≡ 0 → ClashLoop sameEntry es 64 (i + 1)
+    no-path z =
+        clash-step blankEntry sameEntry es 64 i false h k
+        (sym (at-none (sameEntry (getD es i blankEntry)) (drop (i + 1) es) blankEntry
+        (λ j w.
+        other-key (getD es i blankEntry) (getD (drop (i + 1) es) j blankEntry)
+        (rw (← key-at i k, z)))))
+        refl
+
+    -- nor is one of another key
+    pub key-differs : (j : ℕ) → AnyLoop (sameEntry (getD es i blankEntry)) es (i + 1) 64 j → j < 64 → (getD ks j 0 ≡ getD ks i 0 → ⊥)
+        → AnyLoop (sameEntry (getD es i blankEntry)) es (i + 1) 64 (j + 1)
+    key-differs j l w n =
+        any-step blankEntry (sameEntry (getD es i blankEntry)) es (i + 1) 64 j false l w
+        (sym (other-key (getD es i blankEntry) (getD es j blankEntry)
+        (part-fails (given (pathKey (getD es i blankEntry))) (eqb (pathKey (getD es j blankEntry)) (pathKey (getD es i blankEntry)))
+        (rw (key-at j w, key-at i k) at (ne-eqb (getD ks j 0) (getD ks i 0) n)))))
+        refl
 
 -- a turn of the loop that stores the keys: a free row's is there already
 free-key : (e : Entry) → e .volume .0 ≡ 0 → pathKey e ≡ 0

@@ -1,5 +1,7 @@
 pub mod FillLaws
 pub mod KeyLaws
+pub mod NextLaws
 pub mod NumberLaws
+pub mod PlaceLaws
 pub mod ShardLaws
 pub mod Told

@@ -1,21 +1,24 @@
 -- What the tests of the volumes and entries say of an entry's shards, and the loops over the entries. Assumes nothing.
 use mathlib.Core.Path.{_≡_, refl, sym, _∙_, ap}
 use mathlib.Core.Bool.{Bool, true, false, cond, _&&_, _||_}
-use mathlib.Core.List.{List, map}
+use mathlib.Core.List.{List, [], map}
 use Prim.Native.Nat.{ℕ, _+_, _*_, _^_, _<_, _≤_}
 use mir.Val.{Fits}
 use mir.Syntax.{w32, w64}
 use native.Mathlib.Omega.{arith}
+use borrow.Author.Needs.{needs}
 use borrow.Author.Tests.{ltb-true, leb-true, eqb-true, ne-eqb}
 use lib.Dec.{eqb, leb}
-use lib.ListN.{length, getD, set, replicate}
-use Rattle.lists.specs.Lists.{Hit, allOf, noClash, find, hit, miss, sumOf}
+use lib.ListN.{length, getD, set, replicate, length-set}
+use Rattle.lists.specs.declared.Found.{Found}
+use Rattle.lists.specs.declared.Found.the-variants.{At, Nothing}
+use Rattle.lists.specs.Lists.{Hit, firstAt, allOf, anyOf, noClash, find, hit, miss, sumOf}
 use Rattle.lists.specs.SumLaws.{bit-lt, sum-le}
 use Rattle.lists.specs.LoopLaws.{SumLoop, sum-start, sum-adds, sum-skips, sum-within, sum-all}
-use Rattle.lists.specs.RowLaws.{map-row}
+use Rattle.lists.specs.RowLaws.{rows-length, map-row}
 use Rattle.lists.specs.BoolLaws.{and-left, and-right}
-use Rattle.lists.specs.SearchLaws.{found-below, found-at, row-passes, none-miss}
-use Rattle.lists.specs.ByteLoopLaws.{FillLoop}
+use Rattle.lists.specs.SearchLaws.{first-below, found-below, found-at, row-passes, none-miss}
+use Rattle.lists.specs.ByteLoopLaws.{FillLoop, fill-start, fill-whole, length-mapped, least-mapped}
 use Rattle.lists.specs.TestLaws.{all-at, at-none}
 use Rattle.text.specs.Text.{within, isName, isPath, holds}
 use Rattle.rules.specs.declared.Volume.{Volume}
@@ -23,13 +26,17 @@ use Rattle.rules.specs.declared.Entry.{Entry}
 use Rattle.rules.specs.declared.RelayNo.{RelayNo}
 use Rattle.rules.specs.declared.Tables.{Tables}
 use Rattle.rules.specs.Limits.{sizeLimit, balanceLimit}
-use Rattle.rules.specs.Tables.{given, isVolume, usedEntry, freeVolume, freeEntry}
+use Rattle.rules.specs.Tables.{given, numbered, isVolume, usedEntry, freeVolume, freeEntry}
 use Rattle.rules.specs.Scope.{capFits}
-use Rattle.rules.specs.Relays.{shardBytes, holdsShard, bytesOn, shardsOn}
+use Rattle.rules.specs.Relays.{shardSize, shardBytes, holdsShard, bytesOn, shardsOn}
 use Rattle.rules.specs.Sound.{isGiven, shardsFit, soundStatus, soundVolume, soundVolumes, sameVolume, sameName, soundIn, soundEntry, soundEntries, sameEntry}
 use Rattle.rules.specs.Laws.CeilLaws.{ceil-most}
-use Rattle.rows.specs.ShardBytes.{shard-none, shard-some}
+use Rattle.rows.specs.ShardBytes.{shard-none, shard-some, bytes-none, bytes-at}
+use Rattle.soundness.specs.Numbers.{volumeNumber, volumeK}
+use Rattle.soundness.specs.Places.{sameNumber, placesOf}
 use Rattle.soundness.proofs.FillLaws.{fill-zero, fill-stored}
+use Rattle.soundness.proofs.NextLaws.{in-rows, field-at}
+use Rattle.soundness.proofs.PlaceLaws.{place-among}
 use Rattle.rows.specs.Blank.{blankVolume, blankEntry}
 
 -- a used row that is sound passes what comes after the test for a free one
@@ -37,17 +44,62 @@ used-row : (free rest : Bool) → free ≡ false → (free || rest) ≡ true →
 used-row true rest e h = absurd (let z : _≡_ {A = ℕ} 0 1 = cc in omega arith)
 used-row false rest e h = h
 
+-- the bytes of an entry's shards, where the search for its volume's number m said f
+module _ (vs : List Volume) (e : Entry) (n m : ℕ) (ns : List ℕ) (f : Found) (w : f ≡ firstAt (numbered m) 0 ns) (same : m ≡ n) (of : e .volume .0 ≡ n)
+    (k : ns ≡ map volumeNumber vs) where
+  there : f ≡ firstAt (isVolume (e .volume)) 0 vs
+  there = in-rows volumeNumber (numbered (e .volume .0)) vs ns f (rw (same, ← of) at w) k
+
+  pub no-bytes : f ≡ Nothing → 0 ≡ shardBytes vs e
+  no-bytes q = bytes-none vs e f there q
+
+  pub some-bytes : (ks : List ℕ) (r i size : ℕ) → f ≡ At i → ks ≡ map volumeK vs → e .size ≡ size → r ≡ shardSize size (getD ks i 0) → r ≡ shardBytes vs e
+  some-bytes ks r i size q g z h =
+      let below : i < length vs = omega (arith, first-below (isVolume (e .volume)) vs 0 i (sym there ∙ q)) in
+      bytes-at vs e f there r i q (h ∙ rw (z, field-at volumeK vs ks i blankVolume 0 g below))
+
 -- a free row's shards have no bytes, so that 0 may stand for them
 free-size : (vs : List Volume) (e : Entry) → e .volume .0 ≡ 0 → shardBytes vs e ≡ 0
 free-size vs e h = shard-none vs e (none-miss (isVolume (e .volume)) vs 0 (at-none (isVolume (e .volume)) vs blankVolume (λ j k. rw h)))
 
--- a turn of the loop that stores the sizes: a free row's is there already
-module _ (vs : List Volume) (es : List Entry) (i : ℕ) (out next : List ℕ) (h : FillLoop (replicate 64 0) 0 (map (shardBytes vs) es) 64 i out) (k : i < 64) where
-  pub size-skipped : getD es i blankEntry .volume .0 ≡ 0 → next ≡ out → FillLoop (replicate 64 0) 0 (map (shardBytes vs) es) 64 (i + 1) next
-  size-skipped e q = fill-zero (shardBytes vs) blankEntry es 64 i out next h k (free-size vs (getD es i blankEntry) e) q
+-- the loop that stores the sizes, at the entry i: ns and ks are the numbers and the K of any volumes vs
+pub record SizesLoop (es : List Entry) (ns ks out : List ℕ) (i : ℕ) : Type 0 where
+  pub size : length out ≡ 64
+  pub rows : length es ≡ 64
+  pub stored : (vs : List Volume) → ns ≡ map volumeNumber vs → ks ≡ map volumeK vs → FillLoop (replicate 64 0) 0 (map (shardBytes vs) es) 64 i out
 
-  pub size-stored : (x : ℕ) → x ≡ shardBytes vs (getD es i blankEntry) → next ≡ set out i x → FillLoop (replicate 64 0) 0 (map (shardBytes vs) es) 64 (i + 1) next
-  size-stored x e q = fill-stored (shardBytes vs) blankEntry es 64 i out next h k x e q
+module _ (es : List Entry) (ns ks : List ℕ) where
+  pub sizes-start : length es ≡ 64 → SizesLoop es ns ks (replicate 64 0) 0
+  sizes-start e =
+      record { size = refl; rows = e; stored = λ vs f g. fill-start (replicate 64 0) 0 (map (shardBytes vs) es) 64 (omega arith) (least-mapped (shardBytes vs) es 64 e) }
+
+  module _ (i : ℕ) (out : List ℕ) (h : SizesLoop es ns ks out i) where
+    pub sizes-end : (vs : List Volume) → 64 ≤ i → ns ≡ map volumeNumber vs → ks ≡ map volumeK vs → out ≡ map (shardBytes vs) es
+    sizes-end vs k f g = fill-whole (replicate 64 0) (map (shardBytes vs) es) 64 i out (h .stored vs f g) k refl (length-mapped (shardBytes vs) es 64 (h .rows))
+
+    module _ (next : List ℕ) (k : i < 64) where
+      -- a free row's is there already
+      pub size-skipped : getD es i blankEntry .volume .0 ≡ 0 → next ≡ out → SizesLoop es ns ks next (i + 1)
+      size-skipped e q =
+          record {
+            size = rw q (h .size);
+            rows = h .rows;
+            stored = λ vs f g. fill-zero (shardBytes vs) blankEntry es 64 i out next (h .stored vs f g) k (free-size vs (getD es i blankEntry) e) q;
+          }
+
+      -- x is what was said of an entry of this volume and size
+      pub size-stored : (x : ℕ)
+          → ((vs : List Volume) (e : Entry) → ns ≡ map volumeNumber vs → ks ≡ map volumeK vs → e .volume .0 ≡ getD es i blankEntry .volume .0
+          → e .size ≡ getD es i blankEntry .size → x ≡ shardBytes vs e)
+          → next ≡ set out i x → SizesLoop es ns ks next (i + 1)
+      size-stored x t q =
+          record {
+            size = rw q (length-set out i x ∙ h .size);
+            rows = h .rows;
+            stored = λ vs f g. fill-stored (shardBytes vs) blankEntry es 64 i out next (h .stored vs f g) k x (t vs (getD es i blankEntry) f g refl refl) q;
+          }
+
+pub ruleset stores = (sizes-end, sizes-start, rows-length, needs)
 
 -- a sound volume in use has a K that is not 0
 least-k : (t : Tables) (v : Volume) → 0 < v .no .0 → soundVolume t v ≡ true → 1 ≤ v .k
@@ -150,24 +202,26 @@ held-small n es l = rw l at (sum-le (shardsOn n) 1 es blankEntry (λ j b. shards
 abbrev pub entryAt : Tables → ℕ → Entry
 entryAt t i = getD (t .entries) i blankEntry
 
--- sound tables, whose shards have the sizes ss
-pub record Sized (t : Tables) (ss : List ℕ) : Type 0 where
+-- sound tables, whose shards have the sizes ss and the places ps
+pub record Sized (t : Tables) (ss : List ℕ) (ps : List (List ℕ)) : Type 0 where
   pub size : length (t .entries) ≡ 64
   pub sized : ss ≡ map (shardBytes (t .volumes)) (t .entries)
+  pub placed : ps ≡ map placesOf (t .entries)
   pub volumes : soundVolumes t ≡ true
   pub entries : soundEntries t ≡ true
 
 -- the loop that sums a relay's load over their entries
-pub record LoadLoop (t : Tables) (ss : List ℕ) (n : RelayNo) (bytes shards i : ℕ) : Type 0 where
-  pub known : Sized t ss
+pub record LoadLoop (t : Tables) (ss : List ℕ) (ps : List (List ℕ)) (n : RelayNo) (bytes shards i : ℕ) : Type 0 where
+  pub known : Sized t ss ps
+  pub used : n .0 ≡ 0 → ⊥
   pub summed : SumLoop (bytesOn (t .volumes) n) (t .entries) 64 i bytes
   pub counted : SumLoop (shardsOn n) (t .entries) 64 i shards
 
-module _ (t : Tables) (ss : List ℕ) (n : RelayNo) where
-  pub load-start : Sized t ss → LoadLoop t ss n 0 0 0
-  load-start k = record { known = k; summed = sum-start _ _ 64 (k .size); counted = sum-start _ _ 64 (k .size) }
+module _ (t : Tables) (ss : List ℕ) (ps : List (List ℕ)) (n : RelayNo) where
+  pub load-start : Sized t ss ps → (n .0 ≡ 0 → ⊥) → LoadLoop t ss ps n 0 0 0
+  load-start k u = record { known = k; used = u; summed = sum-start _ _ 64 (k .size); counted = sum-start _ _ 64 (k .size) }
 
-  module _ (bytes shards i : ℕ) (h : LoadLoop t ss n bytes shards i) where
+  module _ (bytes shards i : ℕ) (h : LoadLoop t ss ps n bytes shards i) where
     pub load-bytes : 64 ≤ i → bytes ≡ sumOf (bytesOn (t .volumes) n) (t .entries)
     load-bytes k = sum-all (bytesOn (t .volumes) n) (t .entries) 64 i bytes (h .summed) k
 
@@ -179,7 +233,14 @@ module _ (t : Tables) (ss : List ℕ) (n : RelayNo) where
       size-at =
           ap (λ (l : List ℕ). getD l i 0) (h .known .sized) ∙ map-row (shardBytes (t .volumes)) (t .entries) i blankEntry 0 (omega (arith, h .summed .size))
 
-      module _ (r : Bool) (q : r ≡ (usedEntry (entryAt t i) && holdsShard n (entryAt t i .placement))) where
+      module _ (r : Bool) (told : r ≡ anyOf (sameNumber (n .0)) (getD ps i [])) where
+        q : r ≡ (usedEntry (entryAt t i) && holdsShard n (entryAt t i .placement))
+        q =
+            told
+            ∙ ap (λ (l : List (List ℕ)). anyOf (sameNumber (n .0)) (getD l i [])) (h .known .placed)
+            ∙ ap (anyOf (sameNumber (n .0))) (map-row placesOf (t .entries) i blankEntry [] (omega (arith, h .summed .size)))
+            ∙ place-among (entryAt t i) n (h .used)
+
         pub bytes-fit : r ≡ true → Fits w64 (bytes + getD ss i 0)
         bytes-fit w =
             let m = sum-within blankEntry (bytesOn (t .volumes) n) (t .entries) 64 i bytes (h .summed) k in
@@ -191,19 +252,21 @@ module _ (t : Tables) (ss : List ℕ) (n : RelayNo) where
             record { fits = omega (arith, m, shard-on n (entryAt t i) (sym q ∙ w), held-small n (t .entries) (h .counted .size)) }
 
         module _ (b′ s′ : ℕ) where
-          pub load-on : r ≡ true → b′ ≡ bytes + getD ss i 0 → s′ ≡ shards + 1 → LoadLoop t ss n b′ s′ (i + 1)
+          pub load-on : r ≡ true → b′ ≡ bytes + getD ss i 0 → s′ ≡ shards + 1 → LoadLoop t ss ps n b′ s′ (i + 1)
           load-on w f g =
               record {
                 known = h .known;
+                used = h .used;
                 summed = sum-adds blankEntry _ _ 64 i bytes (getD ss i 0) b′ (h .summed) k (size-at ∙ bytes-on n (entryAt t i) (t .volumes) (sym q ∙ w)) f;
                 counted = sum-adds blankEntry _ _ 64 i shards 1 s′ (h .counted) k (shard-on n (entryAt t i) (sym q ∙ w)) g;
               }
 
-          pub load-off : r ≡ false → b′ ≡ bytes → s′ ≡ shards → LoadLoop t ss n b′ s′ (i + 1)
+          pub load-off : r ≡ false → b′ ≡ bytes → s′ ≡ shards → LoadLoop t ss ps n b′ s′ (i + 1)
           load-off w f g =
               rw (f, g)
               (record {
                 known = h .known;
+                used = h .used;
                 summed = sum-skips blankEntry _ _ 64 i bytes (h .summed) k (sym (bytes-off n (entryAt t i) (t .volumes) (sym q ∙ w)));
                 counted = sum-skips blankEntry _ _ 64 i shards (h .counted) k (sym (shard-off n (entryAt t i) (sym q ∙ w)));
               })

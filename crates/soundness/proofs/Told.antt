@@ -1,21 +1,21 @@
 -- What a test of one row says of the tables that it was handed parts of. Assumes nothing.
 use mathlib.Core.Path.{_≡_, refl, sym, _∙_}
 use mathlib.Core.Bool.{Bool, true, false, not, _&&_}
-use mathlib.Core.List.{List}
+use mathlib.Core.List.{List, map}
 use Prim.Native.Nat.{ℕ, _+_, _<_, _≤_}
+use native.Mathlib.Omega.{arith}
 use borrow.Author.Tests.{ne-eqb, le-leb, not-false}
 use lib.Dec.{leb}
-use lib.ListN.{drop, getD}
+use lib.ListN.{length, drop, getD}
 use Rattle.text.specs.Text.{holds, isPrefix}
 use Rattle.rules.specs.Limits.{deepest, usedLimit}
 use Rattle.rules.specs.Scope.{capFits, depth}
 use Rattle.lists.specs.declared.Found.{Found}
 use Rattle.lists.specs.declared.Found.the-variants.{At, Nothing}
-use Rattle.lists.specs.Lists.{Hit, firstAt, find, allOf, anyOf}
-use Rattle.lists.specs.SearchLaws.{first-row, first-miss}
-use Rattle.rules.specs.declared.RelayNo.{RelayNo}
+use Rattle.lists.specs.Lists.{firstAt, find, anyOf}
+use Rattle.lists.specs.SearchLaws.{first-row, first-miss, first-below}
 use Rattle.rules.specs.declared.VolumeNo.{VolumeNo}
-use Rattle.rules.specs.Tables.{isVolume}
+use Rattle.rules.specs.Tables.{numbered, isVolume}
 use Rattle.rows.specs.Blank.{blankVolume, blankRelay}
 use Rattle.lists.specs.LoopLaws.{AllLoop, all-step, ClashLoop, clash-step}
 use Rattle.lists.specs.TestLaws.{at-none}
@@ -27,7 +27,9 @@ use Rattle.rules.specs.declared.Relay.{Relay}
 use Rattle.rules.specs.declared.Session.{Session}
 use Rattle.rules.specs.declared.Status.{Status}
 use Rattle.rules.specs.declared.Tables.{Tables}
-use Rattle.rules.specs.Sound.{sameName, soundGrace, soundVolumes, soundEntries, soundVolume, soundToken, soundEntry, soundRelay, soundSession, soundIn, parentThere, relayGiven, soundPlacement, isGiven, volumeThere}
+use Rattle.rules.specs.Sound.{sameName, soundGrace, soundVolumes, soundEntries, soundVolume, soundToken, soundEntry, soundRelay, soundSession, soundIn, parentThere, soundPlacement, isGiven, volumeThere}
+use Rattle.soundness.specs.Numbers.{volumeNumber, volumeWidth}
+use Rattle.soundness.proofs.NextLaws.{in-rows, field-at}
 
 module _ (t : Tables) (b : Bool) where
   pub volume-told : (v : Volume) → ((u : Tables) → u .«last_volume» ≡ t .«last_volume» → u .clock ≡ t .clock → b ≡ soundVolume u v) → b ≡ soundVolume t v
@@ -37,32 +39,42 @@ module _ (t : Tables) (b : Bool) where
       → ((u : Tables) → u .volumes ≡ t .volumes → u .tokens ≡ t .tokens → u .«last_token» ≡ t .«last_token» → b ≡ soundToken u k) → b ≡ soundToken t k
   token-told k f = f t refl refl refl
 
-  pub entry-told : (e : Entry) → ((u : Tables) → u .volumes ≡ t .volumes → u .«last_relay» ≡ t .«last_relay» → b ≡ soundEntry u e) → b ≡ soundEntry t e
-  entry-told e f = f t refl refl
+  module _ (ns ws : List ℕ) where
+    pub entry-told : (e : Entry)
+        → ((u : Tables) → ns ≡ map volumeNumber (u .volumes) → ws ≡ map volumeWidth (u .volumes) → u .«last_relay» ≡ t .«last_relay» → b ≡ soundEntry u e)
+        → ns ≡ map volumeNumber (t .volumes) → ws ≡ map volumeWidth (t .volumes) → b ≡ soundEntry t e
+    entry-told e f g h = f t g h refl
+
+    pub in-told : (p : Placement) (n : VolumeNo) (last : ℕ)
+        → ((u : Tables) → ns ≡ map volumeNumber (u .volumes) → ws ≡ map volumeWidth (u .volumes) → u .«last_relay» ≡ last → b ≡ soundIn u p (find (isVolume n) (u .volumes)))
+        → ns ≡ map volumeNumber (t .volumes) → ws ≡ map volumeWidth (t .volumes) → t .«last_relay» ≡ last → b ≡ soundIn t p (find (isVolume n) (t .volumes))
+    in-told p n last f g h e = f t g h e
 
   pub session-told : (s : Session)
       → ((u : Tables) → u .«last_token» ≡ t .«last_token» → u .«last_volume» ≡ t .«last_volume» → b ≡ soundSession u s) → b ≡ soundSession t s
   session-told s f = f t refl refl
 
-  pub in-told : (p : Placement) (h : Hit Volume) (last : ℕ) → ((u : Tables) → u .«last_relay» ≡ last → b ≡ soundIn u p h) → t .«last_relay» ≡ last → b ≡ soundIn t p h
-  in-told p h last f e = f t e
-
   pub parent-told : (k : Token) (rows : List Token) → ((u : Tables) → u .tokens ≡ rows → b ≡ parentThere u k) → t .tokens ≡ rows → b ≡ parentThere t k
   parent-told k rows f e = f t e
 
-  pub relays-told : (l : List RelayNo) (last : ℕ) → ((u : Tables) → u .«last_relay» ≡ last → b ≡ allOf (relayGiven u) l) → t .«last_relay» ≡ last → b ≡ allOf (relayGiven t) l
-  relays-told l last f e = f t e
+-- an entry's placement, where the search for its volume's number m found none, or the one at i
+module _ (t : Tables) (p : Placement) (n : VolumeNo) (m : ℕ) (ns : List ℕ) (f : Found) (e : f ≡ firstAt (numbered m) 0 ns) (same : m ≡ n .0)
+    (k : ns ≡ map volumeNumber (t .volumes)) where
+  there : f ≡ firstAt (isVolume n) 0 (t .volumes)
+  there = in-rows volumeNumber (numbered (n .0)) (t .volumes) ns f (rw same at e) k
 
--- an entry's placement, where the search for its volume found none, or the one at i
-module _ (t : Tables) (p : Placement) (n : VolumeNo) (vs : List Volume) (f : Found) (e : f ≡ firstAt (isVolume n) 0 vs) where
-  pub placed-none : f ≡ Nothing → false ≡ soundIn t p (find (isVolume n) vs)
+  pub placed-none : f ≡ Nothing → false ≡ soundIn t p (find (isVolume n) (t .volumes))
   unfolding soundIn
-  placed-none w = sym (rw (first-miss (isVolume n) vs (sym e ∙ w)))
+  placed-none w = sym (rw (first-miss (isVolume n) (t .volumes) (sym there ∙ w)))
 
-  pub placed-at : (i : ℕ) (b : Bool) (last : ℕ) → f ≡ At i → ((u : Tables) → u .«last_relay» ≡ last → b ≡ soundPlacement u (getD vs i blankVolume) p)
-      → t .«last_relay» ≡ last → b ≡ soundIn t p (find (isVolume n) vs)
+  pub placed-at : (ws : List ℕ) (i : ℕ) (b : Bool) (last : ℕ) → f ≡ At i
+      → ((u : Tables) (v : Volume) → u .«last_relay» ≡ last → v .k + v .m ≡ getD ws i 0 → b ≡ soundPlacement u v p)
+      → ws ≡ map volumeWidth (t .volumes) → t .«last_relay» ≡ last → b ≡ soundIn t p (find (isVolume n) (t .volumes))
   unfolding soundIn
-  placed-at i b last w g h = g t h ∙ sym (rw (first-row (isVolume n) vs i (sym e ∙ w) blankVolume))
+  placed-at ws i b last w g q h =
+      let below : i < length (t .volumes) = omega (arith, first-below (isVolume n) (t .volumes) 0 i (sym there ∙ w)) in
+      g t (getD (t .volumes) i blankVolume) h (sym (field-at volumeWidth (t .volumes) ws i blankVolume 0 q below))
+      ∙ sym (rw (first-row (isVolume n) (t .volumes) i (sym there ∙ w) blankVolume))
 
 -- the last return of a token's test: all parts but the last hold
 pub token-passed : (t : Tables) (k : Token) (x fits there parent : Bool) (vs : List Volume) (rows : List Token) (last n : ℕ) → (k .no .0 ≡ 0 → ⊥)

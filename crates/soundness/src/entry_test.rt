@@ -1,42 +1,43 @@
 // The entry table, row by row and against itself.
 ghost use mathlib.Core.Path.{_≡_};
 ghost use mathlib.Core.List.{map};
-ghost use Prim.Native.Nat.{_+_, _<_};
-ghost use lib.ListN.{drop, getD};
-ghost use Rattle.lists.specs.Lists.{allOf, anyOf, noClash, find};
-ghost use Rattle.rows.specs.Blank.{blankEntry};
+ghost use lib.ListN.{length};
+ghost use Rattle.lists.specs.Lists.{allOf, noClash, find};
+ghost use Rattle.soundness.specs.Numbers.{volumeNumber, volumeWidth};
 ghost use Rattle.soundness.specs.PathKeys.{pathKey};
 ghost use Rattle.rules.specs.declared.Tables.{Tables};
 ghost use Rattle.rules.specs.Tables.{isVolume};
 ghost use Rattle.rules.specs.Sound.{soundIn, soundEntry, soundEntries, sameEntry};
 use super::numbers::any_number;
-use super::numbers::number_again;
+use super::numbers::next_number;
+use super::numbers::volume_numbers;
+use super::numbers::volume_widths;
+use super::numbers::wide;
 use super::path_keys::path_keys;
 use super::placements::sound_placement;
 use lists::Found;
-use rows::find_volume;
 use rows::is_number;
 use rules::Entry;
 use rules::Placement;
 use rules::Tables;
-use rules::Volume;
 use rules::VolumeNo;
 use text::path::holds_path;
 use text::same_texts;
 
-// The volume is in the table, and the placement is of its K and M.
-fn sound_in(volumes: [Volume; 8], n: VolumeNo, p: Placement, last: u32) -> bool
-    ensures { λ r. ⌜ ((t : Tables) → t .«last_relay» ≡ last → r ≡ soundIn t p (find (isVolume n) volumes)) ⌝ }
+// The volume is in the table, and the placement is of its K and M. These are the volumes' numbers, and their K+M.
+fn sound_in(numbers: &[u64], widths: &[usize], n: VolumeNo, p: Placement, last: u32) -> bool
+    requires { ⌜ length (now widths) ≡ length (now numbers) ⌝ }
+    ensures { λ r. ⌜ ((t : Tables) → now (numbers .entry) ≡ map volumeNumber (t .volumes) → now (widths .entry) ≡ map volumeWidth (t .volumes) → t .«last_relay» ≡ last → r ≡ soundIn t p (find (isVolume n) (t .volumes))) ⌝ }
 {
-    let Found::At(i) = find_volume(volumes, n) else {
+    let Found::At(i) = next_number(numbers, wide(n.0), 0) else {
         return false;
     };
-    let v = volumes[i];
-    sound_placement(v, p, last)
+    sound_placement(widths[i], p, last)
 }
 
-fn sound_entry(e: Entry, volumes: [Volume; 8], last: u32) -> bool
-    ensures { λ r. ⌜ ((t : Tables) → t .volumes ≡ volumes → t .«last_relay» ≡ last → r ≡ soundEntry t e) ⌝ }
+fn sound_entry(e: Entry, numbers: &[u64], widths: &[usize], last: u32) -> bool
+    requires { ⌜ length (now widths) ≡ length (now numbers) ⌝ }
+    ensures { λ r. ⌜ ((t : Tables) → now (numbers .entry) ≡ map volumeNumber (t .volumes) → now (widths .entry) ≡ map volumeWidth (t .volumes) → t .«last_relay» ≡ last → r ≡ soundEntry t e) ⌝ }
 {
     let n = e.volume;
     if n.0 == 0 {
@@ -50,7 +51,7 @@ fn sound_entry(e: Entry, volumes: [Volume; 8], last: u32) -> bool
         return false;
     }
     let p = e.placement;
-    sound_in(volumes, n, p, last)
+    sound_in(numbers, widths, n, p, last)
 }
 
 fn all_entries(t: Tables) -> bool
@@ -58,10 +59,12 @@ fn all_entries(t: Tables) -> bool
 {
     let rows = t.entries;
     let volumes = t.volumes;
+    let numbers = volume_numbers(volumes);
+    let widths = volume_widths(volumes);
     let mut i: usize = 0;
     while i < 64 {
         let e = rows[i];
-        if !sound_entry(e, volumes, t.last_relay) {
+        if !sound_entry(e, &numbers, &widths, t.last_relay) {
             return false;
         }
         i += 1;
@@ -80,31 +83,7 @@ fn same_entry(a: Entry, b: Entry) -> bool
     same_texts(x, y)
 }
 
-// Whether a row from an index on has the same volume and path.
-fn path_again(rows: [Entry; 64], a: Entry, start: usize) -> bool
-    ensures { λ r. ⌜ r ≡ anyOf (sameEntry a) (drop start rows) ⌝ }
-{
-    let mut i = start;
-    while i < 64 {
-        let b = rows[i];
-        if same_entry(a, b) {
-            return true;
-        }
-        i += 1;
-    }
-    false
-}
-
-// Whether a row after this one has the same volume and path.
-fn clashes_at(rows: [Entry; 64], i: usize) -> bool
-    requires { ⌜ i < 64 ⌝ }
-    ensures { λ r. ⌜ r ≡ anyOf (sameEntry (getD rows i blankEntry)) (drop (i + 1) rows) ⌝ }
-{
-    let e = rows[i];
-    path_again(rows, e, i + 1)
-}
-
-// No volume's path is held twice, where these are the entries' keys.
+// No volume's path is held twice, where these are the entries' keys: only rows of the same key are compared.
 fn paths_differ(rows: [Entry; 64], keys: [u64; 64]) -> bool
     requires { ⌜ keys ≡ map pathKey rows ⌝ }
     ensures { λ r. ⌜ r ≡ noClash sameEntry rows ⌝ }
@@ -112,9 +91,17 @@ fn paths_differ(rows: [Entry; 64], keys: [u64; 64]) -> bool
     let mut i: usize = 0;
     while i < 64 {
         let key = keys[i];
-        if number_again(&keys, key, i + 1) {
-            if clashes_at(rows, i) {
-                return false;
+        if key != 0 {
+            let mut j = i + 1;
+            while j < 64 {
+                if keys[j] == key {
+                    let a = rows[i];
+                    let b = rows[j];
+                    if same_entry(a, b) {
+                        return false;
+                    }
+                }
+                j += 1;
             }
         }
         i += 1;

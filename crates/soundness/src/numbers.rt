@@ -1,10 +1,12 @@
 // Numbers in a row: those of a table's rows, or one for each of its rows.
 ghost use mathlib.Core.Path.{_≡_};
+ghost use Prim.Native.Nat.{_+_};
 ghost use lib.ListN.{drop};
 ghost use mathlib.Core.List.{map};
-ghost use Rattle.lists.specs.Lists.{anyOf, noClash};
+ghost use Rattle.lists.specs.Lists.{anyOf, firstAt, noClash};
 ghost use Rattle.rules.specs.Tables.{given, numbered};
-ghost use Rattle.soundness.specs.Numbers.{volumeNumber, tokenNumber, relayNumber};
+ghost use Rattle.soundness.specs.Numbers.{volumeNumber, volumeWidth, volumeK, tokenNumber, relayNumber};
+use lists::Found;
 use rules::Relay;
 use rules::Token;
 use rules::Volume;
@@ -31,6 +33,20 @@ pub(crate) fn number_again(numbers: &[u64], n: u64, start: usize) -> bool
         i += 1;
     }
     false
+}
+
+// Where from an index on the number n stands first.
+pub(crate) fn next_number(numbers: &[u64], n: u64, start: usize) -> Found
+    ensures { λ r. ⌜ r ≡ firstAt (numbered n) start (drop start (now (numbers .entry))) ⌝ }
+{
+    let mut i = start;
+    while i < numbers.len() {
+        if is_number(n, numbers[i]) {
+            return Found::At(i);
+        }
+        i += 1;
+    }
+    Found::Nothing
 }
 
 fn is_some(n: u64) -> bool
@@ -68,7 +84,7 @@ pub(crate) fn numbers_differ(numbers: &[u64]) -> bool
 }
 
 // A row's number in 64 bits.
-fn wide(n: u32) -> u64
+pub(crate) fn wide(n: u32) -> u64
     ensures { λ r. ⌜ r ≡ n ⌝ }
 {
     n as u64
@@ -84,6 +100,39 @@ pub(crate) fn volume_numbers(rows: [Volume; 8]) -> [u64; 8]
         i += 1;
     }
     numbers
+}
+
+// K+M.
+fn width_of(k: u8, m: u8) -> usize
+    ensures { λ r. ⌜ r ≡ k + m ⌝ }
+{
+    (k as usize) + (m as usize)
+}
+
+// K+M of each volume.
+pub(crate) fn volume_widths(rows: [Volume; 8]) -> [usize; 8]
+    ensures { λ r. ⌜ r ≡ map volumeWidth rows ⌝ }
+{
+    let mut widths = [0usize; 8];
+    let mut i: usize = 0;
+    while i < 8 {
+        widths[i] = width_of(rows[i].k, rows[i].m);
+        i += 1;
+    }
+    widths
+}
+
+// K of each volume.
+pub(crate) fn volume_ks(rows: [Volume; 8]) -> [u8; 8]
+    ensures { λ r. ⌜ r ≡ map volumeK rows ⌝ }
+{
+    let mut ks = [0u8; 8];
+    let mut i: usize = 0;
+    while i < 8 {
+        ks[i] = rows[i].k;
+        i += 1;
+    }
+    ks
 }
 
 pub(crate) fn token_numbers(rows: [Token; 32]) -> [u64; 32]

@@ -1,15 +1,13 @@
 // An entry's placement: its relays' numbers were given, and no two are the same.
 ghost use mathlib.Core.Path.{_≡_};
-ghost use Prim.Native.Nat.{min};
-ghost use lib.ListN.{drop, take};
+ghost use Prim.Native.Nat.{_+_, min};
 ghost use Rattle.lists.specs.Lists.{allOf, anyOf, noClash};
 ghost use Rattle.rules.specs.declared.Tables.{Tables};
-ghost use Rattle.rules.specs.Relays.{sameRelay};
-ghost use Rattle.rules.specs.Sound.{relayGiven, soundPlacement};
+ghost use Rattle.rules.specs.declared.Volume.{Volume};
+ghost use Rattle.rules.specs.Sound.{isGiven, soundPlacement};
+ghost use Rattle.soundness.specs.Places.{placeNumbers, sameNumber};
 use rows::is_given;
 use rules::Placement;
-use rules::RelayNo;
-use rules::Volume;
 
 pub(crate) fn least(a: usize, b: usize) -> usize
     ensures { λ r. ⌜ r ≡ min a b ⌝ }
@@ -17,15 +15,58 @@ pub(crate) fn least(a: usize, b: usize) -> usize
     if a < b { a } else { b }
 }
 
-// Of the first `len` places.
-fn relays_given(relays: [RelayNo; 24], len: usize, last: u32) -> bool
-    ensures { λ r. ⌜ ((t : Tables) → t .«last_relay» ≡ last → r ≡ allOf (relayGiven t) (take len relays)) ⌝ }
+// The numbers of a placement's relays: 0 past the last of them.
+pub(crate) fn place_numbers(p: Placement) -> [u32; 24]
+    ensures { λ r. ⌜ r ≡ placeNumbers p ⌝ }
 {
-    let n = least(len, 24);
+    let relays = p.relays;
+    let n = least(p.len, 24);
+    let mut numbers = [0u32; 24];
     let mut i: usize = 0;
     while i < n {
-        let x = relays[i];
-        if !is_given(last, x.0) {
+        numbers[i] = relays[i].0;
+        i += 1;
+    }
+    numbers
+}
+
+// Whether one of the numbers is n: no early exit, so that the compiler compares many at once.
+pub(crate) fn among(numbers: &[u32], n: u32) -> bool
+    ensures { λ r. ⌜ r ≡ anyOf (sameNumber n) (now (numbers .entry)) ⌝ }
+{
+    let mut found = false;
+    let mut i: usize = 0;
+    while i < numbers.len() {
+        if numbers[i] == n {
+            found = true;
+        }
+        i += 1;
+    }
+    found
+}
+
+// Every number was given: no early exit either.
+fn all_given(numbers: &[u32], last: u32) -> bool
+    ensures { λ r. ⌜ r ≡ allOf (isGiven last) (now (numbers .entry)) ⌝ }
+{
+    let mut all = true;
+    let mut i: usize = 0;
+    while i < numbers.len() {
+        if !is_given(last, numbers[i]) {
+            all = false;
+        }
+        i += 1;
+    }
+    all
+}
+
+// No two numbers are the same.
+fn all_differ(numbers: &[u32]) -> bool
+    ensures { λ r. ⌜ r ≡ noClash sameNumber (now (numbers .entry)) ⌝ }
+{
+    let mut i: usize = 0;
+    while i < numbers.len() {
+        if among(&numbers[i + 1..], numbers[i]) {
             return false;
         }
         i += 1;
@@ -33,48 +74,18 @@ fn relays_given(relays: [RelayNo; 24], len: usize, last: u32) -> bool
     true
 }
 
-// Whether a place from an index on is of this relay.
-pub(crate) fn relay_again(relays: [RelayNo; 24], len: usize, x: RelayNo, start: usize) -> bool
-    ensures { λ r. ⌜ r ≡ anyOf (sameRelay x) (drop start (take len relays)) ⌝ }
-{
-    let n = least(len, 24);
-    let mut i = start;
-    while i < n {
-        let y = relays[i];
-        if y.0 == x.0 {
-            return true;
-        }
-        i += 1;
-    }
-    false
-}
-
-fn relays_differ(relays: [RelayNo; 24], len: usize) -> bool
-    ensures { λ r. ⌜ r ≡ noClash sameRelay (take len relays) ⌝ }
-{
-    let n = least(len, 24);
-    let mut i: usize = 0;
-    while i < n {
-        let x = relays[i];
-        if relay_again(relays, len, x, i + 1) {
-            return false;
-        }
-        i += 1;
-    }
-    true
-}
-
-// K+M different relays.
-pub(crate) fn sound_placement(v: Volume, p: Placement, last: u32) -> bool
-    ensures { λ r. ⌜ ((t : Tables) → t .«last_relay» ≡ last → r ≡ soundPlacement t v p) ⌝ }
+// K+M different relays: `width` is K+M.
+pub(crate) fn sound_placement(width: usize, p: Placement, last: u32) -> bool
+    ensures { λ r. ⌜ ((t : Tables) (v : Volume) → t .«last_relay» ≡ last → v .k + v .m ≡ width → r ≡ soundPlacement t v p) ⌝ }
 {
     let len = p.len;
-    if len != (v.k as usize) + (v.m as usize) {
+    if len != width {
         return false;
     }
-    let relays = p.relays;
-    if !relays_given(relays, len, last) {
+    let numbers = place_numbers(p);
+    let n = least(len, 24);
+    if !all_given(&numbers[..n], last) {
         return false;
     }
-    relays_differ(relays, len)
+    all_differ(&numbers[..n])
 }

@@ -8,8 +8,9 @@ ghost use Rattle.rules.specs.Sound.{soundVolumes, soundEntries, soundRelay, sou
 use super::numbers::any_number;
 use super::numbers::numbers_differ;
 use super::numbers::relay_numbers;
+use super::placements::among;
 use super::shards::Load;
-use super::shards::has_shard;
+use super::shards::all_places;
 use super::shards::shard_sizes;
 use rows::is_given;
 use rules::Relay;
@@ -41,13 +42,15 @@ fn sound_relay(t: Tables, x: Relay, load: Load) -> bool
     x.held == load.shards
 }
 
-// Of tables whose shards have these sizes. A relay's load is summed here and by no function of its own, which would copy the entries
+// Of tables whose shards have these sizes. A relay's load is summed here and by no function of its own, which would copy the places
 // for each relay.
 fn relays_hold(t: Tables, sizes: [u64; 64]) -> bool
     requires { ⌜ (sizes ≡ map (shardBytes (t .volumes)) (t .entries)) × (soundVolumes t ≡ true) × (soundEntries t ≡ true) ⌝ }
     ensures { λ r. ⌜ r ≡ soundRelays t ⌝ }
 {
     let rows = t.relays;
+    let entries = t.entries;
+    let places = all_places(entries);
     let mut i: usize = 0;
     while i < 32 {
         let x = rows[i];
@@ -57,8 +60,7 @@ fn relays_hold(t: Tables, sizes: [u64; 64]) -> bool
             let mut shards: u32 = 0;
             let mut j: usize = 0;
             while j < 64 {
-                let e = t.entries[j];
-                if has_shard(e, n) {
+                if among(&places[j][..], n.0) {
                     bytes += sizes[j];
                     shards += 1;
                 }

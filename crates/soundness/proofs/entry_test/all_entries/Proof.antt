@@ -3,6 +3,7 @@ use Rattle.rules.specs.Sound.{soundEntry}
 use Rattle.rows.specs.Blank.{blankEntry}
 use Rattle.lists.specs.LoopLaws.{AllLoop, alls, all-failed, all-step}
 use Rattle.soundness.proofs.Told.{entry-told}
+use borrow.Author.Needs.{needs}
 use Rattle.soundness.proofs.entry_test.all_entries.Statement.{statement}
 use Rattle.soundness.proofs.entry_test.all_entries.Tie as tie
 
@@ -10,8 +11,12 @@ pub all-entries-spec : {M : Type 1} → statement M
 all-entries-spec =
     tie.close
     (tie.spec
-    (λ t rows volumes i₀ i. AllLoop (soundEntry t) rows 64 i)
-    (λ t rows volumes i₀ i. 64 - i)
+    (λ t rows numbers widths i₀ i. AllLoop (soundEntry t) rows 64 i)
+    (λ t rows numbers widths i₀ i. 64 - i)
+    (λ c κs. search needs)
+    (λ c κs. search needs)
+    (λ c. search alls)
+    (λ c. search alls)
     (λ c. search alls)
     (λ c. search alls)
     (λ c. search alls)

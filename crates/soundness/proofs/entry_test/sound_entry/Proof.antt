@@ -10,9 +10,9 @@ unfolding soundEntry
 sound-entry-spec =
     tie.close
     (tie.spec
-    (λ c t e f. search passed)
+    (λ c t e f g. search passed)
     (λ c κs. search needs)
-    (λ c t e f. search refused depth 9)
-    (λ c t e f. search refused depth 9)
+    (λ c t e f g. search refused depth 9)
+    (λ c t e f g. search refused depth 9)
     (λ c κs. search needs)
-    (λ c t e f. rw e (search (in-told, passed))))
+    (λ c t e f g. search (in-told, passed)))

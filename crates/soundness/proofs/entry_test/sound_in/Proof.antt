@@ -1,4 +1,3 @@
-use Rattle.rules.specs.Sound.{soundIn}
 use Rattle.lists.specs.AnswerLaws.{in-table}
 use Rattle.soundness.proofs.Told.{placed-none, placed-at}
 use borrow.Author.Needs.{needs}
@@ -6,15 +5,15 @@ use Rattle.soundness.proofs.entry_test.sound_in.Statement.{statement}
 use Rattle.soundness.proofs.entry_test.sound_in.Tie as tie
 
 pub sound-in-spec : {M : Type 1} → statement M
-unfolding soundIn
 sound-in-spec =
     tie.close
     (tie.spec
     (λ c κs. search needs)
+    (λ c κs. search needs)
     (λ c. search needs)
     (λ c. search needs)
-    (λ c t e. search placed-none)
+    (λ c t e f g. search placed-none)
     (λ c. search in-table)
     (λ c. search in-table)
     (λ c κs. search needs)
-    (λ c t e. search placed-at))
+    (λ c t e f g. search placed-at))

@@ -1,6 +1,7 @@
 use Rattle.rules.specs.Sound.{soundPlacement}
 use Rattle.lists.specs.AnswerLaws.{refused, passed}
-use Rattle.soundness.proofs.Told.{relays-told}
+use Rattle.lists.specs.RowLaws.{rows-length}
+use Rattle.soundness.proofs.PlaceLaws.{part-lent, places-given, places-differ}
 use borrow.Author.Needs.{needs}
 use Rattle.soundness.proofs.placements.sound_placement.Statement.{statement}
 use Rattle.soundness.proofs.placements.sound_placement.Tie as tie
@@ -10,11 +11,14 @@ unfolding soundPlacement
 sound-placement-spec =
     tie.close
     (tie.spec
-    (λ c. search needs)
-    (λ c. search needs)
-    (λ c. search needs)
-    (λ c t e. search refused)
+    (λ c t v e f. rw f (search refused))
     (λ c κs. search needs)
-    (λ c t e. search (relays-told, refused))
     (λ c κs. search needs)
-    (λ c t e. search (relays-told, passed)))
+    (λ c. search needs)
+    (λ c. search (part-lent, needs))
+    (λ c κs. search needs)
+    (λ c t v e f. rw f (search (places-given, rows-length, refused)))
+    (λ c. search needs)
+    (λ c. search (part-lent, needs))
+    (λ c κs. search needs)
+    (λ c t v e f. rw f (search (places-given, places-differ, rows-length, passed))))

@@ -16,10 +16,11 @@ pub relays-hold-spec : {M : Type 1} → statement M
 relays-hold-spec =
     tie.close
     (tie.spec
-    (λ t sizes rows i x n bytes₀ shards₀ j₀ bytes shards j. LoadLoop t sizes n bytes shards j)
-    (λ t sizes rows i x n bytes₀ shards₀ j₀ bytes shards j. 64 - j)
-    (λ t sizes rows i₀ i. Sized t sizes × AllLoop (soundRelay t) rows 32 i)
-    (λ t sizes rows i₀ i. 32 - i)
+    (λ t sizes rows places i x n bytes₀ shards₀ j₀ bytes shards j. LoadLoop t sizes places n bytes shards j)
+    (λ t sizes rows places i x n bytes₀ shards₀ j₀ bytes shards j. 64 - j)
+    (λ t sizes rows places i₀ i. Sized t sizes places × AllLoop (soundRelay t) rows 32 i)
+    (λ t sizes rows places i₀ i. 32 - i)
+    (λ c κs. search needs)
     (λ c. search alls)
     (λ c. search alls)
     (λ c. search alls)
