@@ -1,5 +1,6 @@
 pub mod FillLaws
 pub mod KeyLaws
+pub mod NextLaws
 pub mod NumberLaws
 pub mod ShardLaws
 pub mod Told

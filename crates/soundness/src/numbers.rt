@@ -2,9 +2,10 @@
 ghost use mathlib.Core.Path.{_≡_};
 ghost use lib.ListN.{drop};
 ghost use mathlib.Core.List.{map};
-ghost use Rattle.lists.specs.Lists.{anyOf, noClash};
+ghost use Rattle.lists.specs.Lists.{anyOf, firstAt, noClash};
 ghost use Rattle.rules.specs.Tables.{given, numbered};
 ghost use Rattle.soundness.specs.Numbers.{volumeNumber, tokenNumber, relayNumber};
+use lists::Found;
 use rules::Relay;
 use rules::Token;
 use rules::Volume;
@@ -31,6 +32,20 @@ pub(crate) fn number_again(numbers: &[u64], n: u64, start: usize) -> bool
         i += 1;
     }
     false
+}
+
+// Where from an index on the number n stands first.
+pub(crate) fn next_number(numbers: &[u64], n: u64, start: usize) -> Found
+    ensures { λ r. ⌜ r ≡ firstAt (numbered n) start (drop start (now (numbers .entry))) ⌝ }
+{
+    let mut i = start;
+    while i < numbers.len() {
+        if is_number(n, numbers[i]) {
+            return Found::At(i);
+        }
+        i += 1;
+    }
+    Found::Nothing
 }
 
 fn is_some(n: u64) -> bool
