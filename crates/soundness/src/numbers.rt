@@ -4,10 +4,9 @@ ghost use lib.ListN.{drop};
 ghost use mathlib.Core.List.{map};
 ghost use Rattle.lists.specs.Lists.{anyOf, firstAt, noClash};
 ghost use Rattle.rules.specs.Tables.{given, numbered};
-ghost use Rattle.soundness.specs.Numbers.{volumeNumber, tokenNumber, relayNumber};
+ghost use Rattle.soundness.specs.Numbers.{volumeNumber, relayNumber};
 use lists::Found;
 use rules::Relay;
-use rules::Token;
 use rules::Volume;
 
 // A row's number is n, and n is a number.
@@ -95,18 +94,6 @@ pub(crate) fn volume_numbers(rows: [Volume; 8]) -> [u64; 8]
     let mut numbers = [0u64; 8];
     let mut i: usize = 0;
     while i < 8 {
-        numbers[i] = wide(rows[i].no.0);
-        i += 1;
-    }
-    numbers
-}
-
-pub(crate) fn token_numbers(rows: [Token; 32]) -> [u64; 32]
-    ensures { λ r. ⌜ r ≡ map tokenNumber rows ⌝ }
-{
-    let mut numbers = [0u64; 32];
-    let mut i: usize = 0;
-    while i < 32 {
         numbers[i] = wide(rows[i].no.0);
         i += 1;
     }
