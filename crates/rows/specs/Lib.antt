@@ -1,3 +1,5 @@
 pub mod Blank
 pub mod ShardBytes
 pub mod ChainLaws
+pub mod Links
+pub mod LinkLaws

@@ -1,11 +1,11 @@
 -- What a test of one row says of the tables that it was handed parts of. Assumes nothing.
 use mathlib.Core.Path.{_≡_, refl, sym, _∙_}
-use mathlib.Core.Bool.{Bool, true, false, not, _&&_}
+use mathlib.Core.Bool.{Bool, true, false, not, _&&_, _||_}
 use mathlib.Core.List.{List, map}
 use Prim.Native.Nat.{ℕ, _+_, _<_, _≤_}
 use native.Mathlib.Omega.{arith}
 use borrow.Author.Tests.{ne-eqb, le-leb, not-false}
-use lib.Dec.{leb}
+use lib.Dec.{eqb, leb}
 use lib.ListN.{length, drop, getD}
 use Rattle.text.specs.Text.{holds, isPrefix}
 use Rattle.rules.specs.Limits.{deepest, usedLimit}
@@ -15,10 +15,13 @@ use Rattle.lists.specs.declared.Found.the-variants.{At, Nothing}
 use Rattle.lists.specs.Lists.{firstAt, find, anyOf}
 use Rattle.lists.specs.SearchLaws.{first-row, first-miss, first-below}
 use Rattle.rules.specs.declared.VolumeNo.{VolumeNo}
-use Rattle.rules.specs.Tables.{numbered, isVolume}
+use Rattle.rules.specs.Tables.{isVolume, isToken, numbered}
 use Rattle.rows.specs.Blank.{blankVolume, blankRelay}
 use Rattle.lists.specs.LoopLaws.{AllLoop, all-step, ClashLoop, clash-step}
 use Rattle.lists.specs.TestLaws.{at-none}
+use Rattle.lists.specs.RowLaws.{any-map}
+use Rattle.rows.specs.Links.{tokenNumber, tokenParent}
+use Rattle.soundness.specs.Numbers.{volumeNumber}
 use Rattle.rules.specs.declared.Placement.{Placement}
 use Rattle.rules.specs.declared.Volume.{Volume}
 use Rattle.rules.specs.declared.Token.{Token}
@@ -35,10 +38,6 @@ module _ (t : Tables) (b : Bool) where
   pub volume-told : (v : Volume) → ((u : Tables) → u .«last_volume» ≡ t .«last_volume» → u .clock ≡ t .clock → b ≡ soundVolume u v) → b ≡ soundVolume t v
   volume-told v f = f t refl refl
 
-  pub token-told : (k : Token)
-      → ((u : Tables) → u .volumes ≡ t .volumes → u .tokens ≡ t .tokens → u .«last_token» ≡ t .«last_token» → b ≡ soundToken u k) → b ≡ soundToken t k
-  token-told k f = f t refl refl refl
-
   module _ (ns ws : List ℕ) where
     pub entry-told : (e : Entry)
         → ((u : Tables) → ns ≡ map volumeNumber (u .volumes) → ws ≡ map volumeWidth (u .volumes) → u .«last_relay» ≡ t .«last_relay» → b ≡ soundEntry u e)
@@ -54,8 +53,14 @@ module _ (t : Tables) (b : Bool) where
       → ((u : Tables) → u .«last_token» ≡ t .«last_token» → u .«last_volume» ≡ t .«last_volume» → b ≡ soundSession u s) → b ≡ soundSession t s
   session-told s f = f t refl refl
 
-  pub parent-told : (k : Token) (rows : List Token) → ((u : Tables) → u .tokens ≡ rows → b ≡ parentThere u k) → t .tokens ≡ rows → b ≡ parentThere t k
-  parent-told k rows f e = f t e
+  -- a list of numbers stands for its table
+  pub volume-in : (n : VolumeNo) (ns : List ℕ) → b ≡ anyOf (numbered (n .0)) ns → ns ≡ map volumeNumber (t .volumes) → b ≡ volumeThere t n
+  unfolding volumeThere
+  volume-in n ns h e = rw e at h ∙ any-map volumeNumber (t .volumes) (numbered (n .0)) (isVolume n) (λ x. refl)
+
+  pub parent-in : (k : Token) (ns : List ℕ) → b ≡ (eqb (k .parent .0) 0 || anyOf (numbered (k .parent .0)) ns) → ns ≡ map tokenNumber (t .tokens) → b ≡ parentThere t k
+  unfolding parentThere
+  parent-in k ns h e = h ∙ rw (e, any-map tokenNumber (t .tokens) (numbered (k .parent .0)) (isToken (k .parent)) (λ x. refl))
 
 -- an entry's placement, where the search for its volume's number m found none, or the one at i
 module _ (t : Tables) (p : Placement) (n : VolumeNo) (m : ℕ) (ns : List ℕ) (f : Found) (e : f ≡ firstAt (numbered m) 0 ns) (same : m ≡ n .0)
@@ -77,14 +82,13 @@ module _ (t : Tables) (p : Placement) (n : VolumeNo) (m : ℕ) (ns : List ℕ) (
       ∙ sym (rw (first-row (isVolume n) (t .volumes) i (sym there ∙ w) blankVolume))
 
 -- the last return of a token's test: all parts but the last hold
-pub token-passed : (t : Tables) (k : Token) (x fits there parent : Bool) (vs : List Volume) (rows : List Token) (last n : ℕ) → (k .no .0 ≡ 0 → ⊥)
-    → t .volumes ≡ vs → t .tokens ≡ rows → t .«last_token» ≡ last
+pub token-passed : (t : Tables) (k : Token) (x fits there parent : Bool) (last n : ℕ) → (k .no .0 ≡ 0 → ⊥) → t .«last_token» ≡ last
     → fits ≡ (isGiven last (k .no .0) && holds isPrefix (k .scope .prefix) && capFits (k .scope .cap) && leb (k .scope .«from») (k .scope .until)) → not fits ≡ false
-    → there ≡ anyOf (isVolume (k .volume)) vs → not there ≡ false → not parent ≡ false → parent ≡ parentThere t k → n ≡ depth rows k → n ≤ deepest
+    → not there ≡ false → there ≡ volumeThere t (k .volume) → not parent ≡ false → parent ≡ parentThere t k → n ≤ deepest → n ≡ depth (t .tokens) k
     → x ≡ leb (k .used) usedLimit → x ≡ soundToken t k
-unfolding soundToken volumeThere
-token-passed t k x fits there parent vs rows last n used e f g a a′ b b′ p′ p d d′ w =
-    rw (ne-eqb (k .no .0) 0 used, ← p, not-false parent p′, e, f, g, ← a, not-false fits a′, ← b, not-false there b′, ← d, le-leb n deepest d′) w
+unfolding soundToken
+token-passed t k x fits there parent last n used g a a′ b′ b p′ p d′ d w =
+    rw (ne-eqb (k .no .0) 0 used, ← p, not-false parent p′, ← b, not-false there b′, ← d, le-leb n deepest d′, g, ← a, not-false fits a′) w
 
 -- a free relay's row passes
 pub relay-skipped : (t : Tables) (rows : List Relay) (i : ℕ) → AllLoop (soundRelay t) rows 32 i → i < 32 → getD rows i blankRelay .no .0 ≡ 0

@@ -1,7 +1,6 @@
 -- The number of a table's row, and what the test of the desk reads of a volume beside it. Assumes nothing.
 use Prim.Native.Nat.{ℕ, _+_}
 use Rattle.rules.specs.declared.Volume.{Volume}
-use Rattle.rules.specs.declared.Token.{Token}
 use Rattle.rules.specs.declared.Relay.{Relay}
 
 abbrev pub volumeNumber : Volume → ℕ
@@ -13,9 +12,6 @@ volumeWidth v = v .k + v .m
 
 abbrev pub volumeK : Volume → ℕ
 volumeK v = v .k
-
-abbrev pub tokenNumber : Token → ℕ
-tokenNumber k = k .no .0
 
 abbrev pub relayNumber : Relay → ℕ
 relayNumber x = x .no .0

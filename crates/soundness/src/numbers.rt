@@ -5,10 +5,9 @@ ghost use lib.ListN.{drop};
 ghost use mathlib.Core.List.{map};
 ghost use Rattle.lists.specs.Lists.{anyOf, firstAt, noClash};
 ghost use Rattle.rules.specs.Tables.{given, numbered};
-ghost use Rattle.soundness.specs.Numbers.{volumeNumber, volumeWidth, volumeK, tokenNumber, relayNumber};
+ghost use Rattle.soundness.specs.Numbers.{volumeNumber, volumeWidth, volumeK, relayNumber};
 use lists::Found;
 use rules::Relay;
-use rules::Token;
 use rules::Volume;
 
 // A row's number is n, and n is a number.
@@ -133,18 +132,6 @@ pub(crate) fn volume_ks(rows: [Volume; 8]) -> [u8; 8]
         i += 1;
     }
     ks
-}
-
-pub(crate) fn token_numbers(rows: [Token; 32]) -> [u64; 32]
-    ensures { λ r. ⌜ r ≡ map tokenNumber rows ⌝ }
-{
-    let mut numbers = [0u64; 32];
-    let mut i: usize = 0;
-    while i < 32 {
-        numbers[i] = wide(rows[i].no.0);
-        i += 1;
-    }
-    numbers
 }
 
 pub(crate) fn relay_numbers(rows: [Relay; 32]) -> [u64; 32]

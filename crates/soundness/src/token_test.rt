@@ -1,32 +1,36 @@
 // The token table, row by row and against itself.
 ghost use mathlib.Core.Path.{_≡_};
-ghost use mathlib.Core.Bool.{_&&_};
-ghost use lib.Dec.{leb};
+ghost use mathlib.Core.Bool.{_&&_, _||_};
+ghost use mathlib.Core.List.{map};
+ghost use lib.Dec.{eqb, leb};
+ghost use Rattle.lists.specs.Lists.{anyOf};
 ghost use Rattle.rules.specs.declared.Tables.{Tables};
 ghost use Rattle.text.specs.Text.{holds, isPrefix};
 ghost use Rattle.rules.specs.Scope.{capFits};
-ghost use Rattle.rules.specs.Sound.{isGiven, parentThere, soundToken, soundTokens};
+ghost use Rattle.rules.specs.Tables.{numbered};
+ghost use Rattle.rules.specs.Sound.{isGiven, soundToken, soundTokens};
+ghost use Rattle.rows.specs.Links.{tokenNumber, tokenParent};
+ghost use Rattle.soundness.specs.Numbers.{volumeNumber};
+use super::numbers::number_again;
 use super::numbers::numbers_differ;
-use super::numbers::token_numbers;
-use rows::any_token;
-use rows::any_volume;
+use super::numbers::volume_numbers;
 use rows::cap_fits;
-use rows::depth_of;
+use rows::depth_in;
 use rows::is_given;
+use rows::token_numbers;
+use rows::token_parents;
 use rules::Tables;
 use rules::Token;
-use rules::Volume;
 use text::path::holds_prefix;
 
 // The token is a root, or its parent is in the table.
-fn parent_there(rows: [Token; 32], k: Token) -> bool
-    ensures { λ r. ⌜ ((t : Tables) → t .tokens ≡ rows → r ≡ parentThere t k) ⌝ }
+fn parent_there(numbers: &[u64], parent: u64) -> bool
+    ensures { λ r. ⌜ r ≡ (eqb parent 0 || anyOf (numbered parent) (now (numbers .entry))) ⌝ }
 {
-    let n = k.parent;
-    if n.0 == 0 {
+    if parent == 0 {
         return true;
     }
-    any_token(rows, n, 0)
+    number_again(numbers, parent, 0)
 }
 
 // What needs no row of a table: the number, the prefix, the cap and the window.
@@ -48,8 +52,15 @@ fn token_fits(k: Token, last: u32) -> bool
     scope.from <= scope.until
 }
 
-fn sound_token(k: Token, volumes: [Volume; 8], rows: [Token; 32], last: u32) -> bool
-    ensures { λ r. ⌜ ((t : Tables) → t .volumes ≡ volumes → t .tokens ≡ rows → t .«last_token» ≡ last → r ≡ soundToken t k) ⌝ }
+// These are the numbers of the volumes, the numbers of the tokens and the numbers of their parents.
+fn sound_token(
+    k: Token,
+    volumes: &[u64],
+    numbers: &[u64; 32],
+    parents: &[u64; 32],
+    last: u32,
+) -> bool
+    ensures { λ r. ⌜ ((t : Tables) → now (volumes .entry) ≡ map volumeNumber (t .volumes) → now (numbers .entry) ≡ map tokenNumber (t .tokens) → now (parents .entry) ≡ map tokenParent (t .tokens) → t .«last_token» ≡ last → r ≡ soundToken t k) ⌝ }
 {
     if k.no.0 == 0 {
         return true;
@@ -57,14 +68,14 @@ fn sound_token(k: Token, volumes: [Volume; 8], rows: [Token; 32], last: u32) -> 
     if !token_fits(k, last) {
         return false;
     }
-    let volume = k.volume;
-    if !any_volume(volumes, volume, 0) {
+    if !number_again(volumes, k.volume.0 as u64, 0) {
         return false;
     }
-    if !parent_there(rows, k) {
+    let parent = k.parent.0 as u64;
+    if !parent_there(numbers, parent) {
         return false;
     }
-    let depth = depth_of(rows, k);
+    let depth = depth_in(numbers, parents, parent);
     if 8 < depth {
         return false;
     }
@@ -80,10 +91,12 @@ pub(crate) fn sound_tokens(t: Tables) -> bool
     if !numbers_differ(&numbers) {
         return false;
     }
+    let parents = token_parents(rows);
+    let places = volume_numbers(volumes);
     let mut i: usize = 0;
     while i < 32 {
         let k = rows[i];
-        if !sound_token(k, volumes, rows, t.last_token) {
+        if !sound_token(k, &places, &numbers, &parents, t.last_token) {
             return false;
         }
         i += 1;

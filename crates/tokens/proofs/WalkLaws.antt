@@ -1,79 +1,128 @@
--- The walk up a chain of parents that looks for one token, and its loop. Assumes nothing.
+-- The walk up a chain of parents that looks for one token, and its loop; and the loop over the rows that goes by it. Assumes nothing.
 use mathlib.Core.Path.{_≡_, refl, sym, _∙_}
 use mathlib.Core.Bool.{Bool, true, false, _||_}
-use mathlib.Core.List.{List}
+use mathlib.Core.List.{List, map}
 use Prim.Native.Nat.{ℕ, suc, _+_, _-_, _<_, _≤_}
 use native.Mathlib.Omega.{arith}
-use lib.ListN.{length, getD}
+use borrow.Author.Needs.{needs}
+use lib.ListN.{length, getD, set}
 use Rattle.lists.specs.declared.Found.{Found}
 use Rattle.lists.specs.declared.Found.the-variants.{At, Nothing}
-use Rattle.lists.specs.Lists.{miss, hit, find, firstAt, anyOf}
-use Rattle.lists.specs.SearchLaws.{first-row, first-miss}
+use Rattle.lists.specs.Lists.{firstAt, anyOf}
+use Rattle.lists.specs.RowLaws.{any-map, rows-length}
 use Rattle.lists.specs.AnswerLaws.{in-table, part-holds}
 use Rattle.rules.specs.declared.TokenNo.{TokenNo}
 use Rattle.rules.specs.declared.Token.{Token}
-use Rattle.rules.specs.Tables.{isToken}
-use Rattle.rules.specs.Scope.{family}
-use Rattle.rows.specs.ChainLaws.{numbered, upward, chain-up, up-none, up-step, up-end}
+use Rattle.rules.specs.Tables.{numbered, isToken, cleared}
+use Rattle.rules.specs.Fresh.{freshToken}
+use Rattle.rules.specs.Scope.{descends}
+use Rattle.rules.specs.Laws.ClearLoops.{ClearLoop, clear-start, clear-end, cleared-row, kept-row}
+use Rattle.rows.specs.Blank.{blankToken}
+use Rattle.rows.specs.Links.{tokenNumber, tokenParent, chainIn}
+use Rattle.rows.specs.LinkLaws.{link-none, link-step, link-end, linked}
+use Rattle.rows.specs.ChainLaws.{upward, chain-up}
+use Rattle.tokens.specs.Descends.{inChain, descendsIn}
 
--- the token n is among those from the number p on up, at most m of them
-abbrev pub seen : List Token → TokenNo → ℕ → ℕ → Bool
-seen ts n m p = anyOf (isToken n) (upward ts m p)
+-- n is among the numbers from p on up, at most m of them
+abbrev pub seen : List ℕ → List ℕ → ℕ → ℕ → ℕ → Bool
+seen ns ps n m p = anyOf (numbered n) (chainIn ns ps m p)
 
-module _ (ts : List Token) (n : TokenNo) where
-  seen-family : (k : Token) → anyOf (isToken n) (family ts k) ≡ (isToken n k || seen ts n 7 (k .parent .0))
+module _ (ns ps : List ℕ) (n : ℕ) where
+  seen-none : (m p : ℕ) → firstAt (numbered p) 0 ns ≡ Nothing → seen ns ps n m p ≡ false
   unfolding anyOf
-  seen-family k = rw (chain-up ts 7 k)
+  seen-none m p e = rw (link-none ns ps p m e)
 
-  seen-none : (m p : ℕ) → find (isToken (numbered p)) ts ≡ miss → seen ts n m p ≡ false
+  seen-step : (m p i : ℕ) → firstAt (numbered p) 0 ns ≡ At i → seen ns ps n (suc m) p ≡ (numbered n (getD ns i 0) || seen ns ps n m (getD ps i 0))
   unfolding anyOf
-  seen-none m p e = rw (up-none ts m p e)
+  seen-step m p i e = rw (link-step ns ps p m i e)
 
-  seen-step : (m p i : ℕ) (x : Token) → find (isToken (numbered p)) ts ≡ hit i x → seen ts n (suc m) p ≡ (isToken n x || seen ts n m (x .parent .0))
+  seen-end : (p : ℕ) → seen ns ps n 0 p ≡ false
   unfolding anyOf
-  seen-step m p i x e = rw (up-step ts m p i x e)
-
-  seen-end : (p : ℕ) → seen ts n 0 p ≡ false
-  unfolding anyOf
-  seen-end p = rw (up-end ts p)
+  seen-end p = rw (link-end ns ps p)
 
 -- c tokens were looked at, none of them n, and p is the parent of the last: what is left of the walk that goes on from s
-pub record WalkLoop (ts : List Token) (n : TokenNo) (s c p : ℕ) : Type 0 where
-  pub size : length ts ≡ 32
+pub record WalkLoop (ns ps : List ℕ) (n s c p : ℕ) : Type 0 where
   pub few : c ≤ 8
-  pub rest : seen ts n 7 s ≡ seen ts n (8 - c) p
+  pub rest : seen ns ps n 7 s ≡ seen ns ps n (8 - c) p
 
--- k is the token that the walk starts from, and a says whether it is n
-module _ (ts : List Token) (n : TokenNo) (k : Token) (a : Bool) (first : a ≡ isToken n k) where
-  pub walk-here : a ≡ true → true ≡ anyOf (isToken n) (family ts k)
-  walk-here e = sym (seen-family ts n k ∙ rw (sym first ∙ e))
+-- a says whether the number that the walk starts from, k, is n
+module _ (ns ps : List ℕ) (n s k : ℕ) (a : Bool) (first : a ≡ numbered n k) where
+  pub walk-here : a ≡ true → true ≡ inChain ns ps n k s
+  unfolding inChain
+  walk-here e = sym (rw (sym first ∙ e))
 
-  went : a ≡ false → anyOf (isToken n) (family ts k) ≡ seen ts n 7 (k .parent .0)
-  went e = seen-family ts n k ∙ rw (sym first ∙ e)
+  module _ (other : a ≡ false) (c p : ℕ) (h : WalkLoop ns ps n s c p) where
+    went : seen ns ps n (8 - c) p ≡ false → false ≡ inChain ns ps n k s
+    unfolding inChain
+    went e = sym (rw (sym first ∙ other) (h .rest ∙ e))
 
-  module _ (c p : ℕ) (other : a ≡ false) (h : WalkLoop ts n (k .parent .0) c p) where
-    pub walk-end : 8 ≤ c → false ≡ anyOf (isToken n) (family ts k)
-    walk-end w = let q : 8 - c ≡ 0 = omega arith in sym (went other ∙ h .rest ∙ rw q (seen-end ts n p))
+    pub walk-end : 8 ≤ c → false ≡ inChain ns ps n k s
+    unfolding inChain
+    walk-end w = let q : 8 - c ≡ 0 = omega arith in went (rw q (seen-end ns ps n p))
 
-    module _ (f : Found) (e : f ≡ firstAt (isToken (numbered p)) 0 ts) where
-      pub walk-stop : f ≡ Nothing → false ≡ anyOf (isToken n) (family ts k)
-      walk-stop w = sym (went other ∙ h .rest ∙ seen-none ts n (8 - c) p (first-miss (isToken (numbered p)) ts (sym e ∙ w)))
+    pub walk-stop : (f : Found) → f ≡ firstAt (numbered p) 0 ns → f ≡ Nothing → false ≡ inChain ns ps n k s
+    unfolding inChain
+    walk-stop f e w = went (seen-none ns ps n (8 - c) p (sym e ∙ w))
 
--- b says whether the token at i, the next one, is n
-module _ (ts : List Token) (n : TokenNo) (s c p : ℕ) (h : WalkLoop ts n s c p) (l : c < 8) (f : Found) (e : f ≡ firstAt (isToken (numbered p)) 0 ts)
-    (i : ℕ) (w : f ≡ At i) (d : Token) (b : Bool) (next : b ≡ isToken n (getD ts i d)) where
-  walked : seen ts n 7 s ≡ (b || seen ts n (8 - (c + 1)) (getD ts i d .parent .0))
-  walked =
-      let q : 8 - c ≡ suc (8 - (c + 1)) = omega arith in
-      h .rest ∙ rw (q, next) (seen-step ts n (8 - (c + 1)) p i (getD ts i d) (first-row (isToken (numbered p)) ts i (sym e ∙ w) d))
+-- b says whether the number at i, the next one, is n
+module _ (ns ps : List ℕ) (n s c p : ℕ) (h : WalkLoop ns ps n s c p) (l : c < 8) (f : Found) (e : f ≡ firstAt (numbered p) 0 ns) (i : ℕ) (w : f ≡ At i) (b : Bool)
+    (next : b ≡ numbered n (getD ns i 0)) where
+  walked : seen ns ps n 7 s ≡ (b || seen ns ps n (8 - (c + 1)) (getD ps i 0))
+  walked = let q : 8 - c ≡ suc (8 - (c + 1)) = omega arith in h .rest ∙ rw (q, next) (seen-step ns ps n (8 - (c + 1)) p i (sym e ∙ w))
 
-  pub walk-found : (k : Token) → k .parent .0 ≡ s → b ≡ true → true ≡ anyOf (isToken n) (family ts k)
-  walk-found k u t = rw (seen-family ts n k, u) (part-holds (isToken n k) (seen ts n 7 s) (walked ∙ rw t))
+  pub walk-found : (k : ℕ) → b ≡ true → true ≡ inChain ns ps n k s
+  unfolding inChain
+  walk-found k t = part-holds (numbered n k) (seen ns ps n 7 s) (walked ∙ rw t)
 
-  pub walk-step : b ≡ false → WalkLoop ts n s (c + 1) (getD ts i d .parent .0)
-  walk-step t = record { size = h .size; few = omega arith; rest = walked ∙ rw t }
+  pub walk-step : b ≡ false → WalkLoop ns ps n s (c + 1) (getD ps i 0)
+  walk-step t = record { few = omega arith; rest = walked ∙ rw t }
 
-pub walk-start : (ts : List Token) (n : TokenNo) (s : ℕ) → length ts ≡ 32 → WalkLoop ts n s 1 s
-walk-start ts n s e = record { size = e; few = omega arith; rest = refl }
+pub walk-start : (ns ps : List ℕ) (n s : ℕ) → WalkLoop ns ps n s 1 s
+walk-start ns ps n s = record { few = omega arith; rest = refl }
 
 pub ruleset walks = (walk-here, walk-stop, walk-found, walk-step, walk-end, walk-start, in-table)
+
+-- so it says whether the token k of the table descends from n: b is what the walk said
+pub descends-linked : (ts : List Token) (n : TokenNo) (k : Token) (b : Bool) (ns ps : List ℕ)
+    → b ≡ descendsIn ns ps (n .0) (k .no .0) (k .parent .0) → ns ≡ map tokenNumber ts → ps ≡ map tokenParent ts
+    → b ≡ descends ts n k
+unfolding descends descendsIn inChain anyOf
+descends-linked ts n k b ns ps h e f =
+    h
+    ∙ rw
+    (e, f, linked ts 7 (k .parent .0), any-map tokenNumber (upward ts 7 (k .parent .0)) (numbered (n .0)) (isToken n) (λ x. refl), chain-up ts 7 k)
+
+-- the loop that makes the rows fresh which go, in the table ts: the lists are those of its rows, and i of them were looked at
+pub record DropLoop (ts : List Token) (n : TokenNo) (ns ps : List ℕ) (i : ℕ) (out : List Token) : Type 0 where
+  pub numbers : ns ≡ map tokenNumber ts
+  pub parents : ps ≡ map tokenParent ts
+  pub rows : ClearLoop (descends ts n) freshToken ts 32 i out
+
+module _ (ts : List Token) (n : TokenNo) (ns ps : List ℕ) where
+  pub drop-start : length ts ≡ 32 → ns ≡ map tokenNumber ts → ps ≡ map tokenParent ts → DropLoop ts n ns ps 0 ts
+  drop-start l e f = record { numbers = e; parents = f; rows = clear-start (descends ts n) freshToken ts 32 l }
+
+  module _ (i : ℕ) (out : List Token) (h : DropLoop ts n ns ps i out) where
+    pub drop-end : 32 ≤ i → length ts ≡ 32 → out ≡ cleared (descends ts n) freshToken ts
+    drop-end k l = clear-end (descends ts n) freshToken ts 32 i out (h .rows) k l
+
+    pub drop-size : length out ≡ length ts
+    drop-size = h .rows .size
+
+    -- b is what the walk said of row i, and next the table after it
+    module _ (next : List Token) (b : Bool) where
+      abbrev Told : Type 0
+      Told = b ≡ descendsIn ns ps (n .0) (getD ts i blankToken .no .0) (getD ts i blankToken .parent .0)
+
+      told : Told → b ≡ descends ts n (getD ts i blankToken)
+      told e = descends-linked ts n (getD ts i blankToken) b ns ps e (h .numbers) (h .parents)
+
+      pub drop-row : b ≡ true → (y : Token) → next ≡ set out i y → y ≡ freshToken → i < 32 → Told → DropLoop ts n ns ps (i + 1) next
+      drop-row t y f q k e =
+          record { numbers = h .numbers; parents = h .parents; rows = cleared-row blankToken (descends ts n) freshToken ts 32 i out b (h .rows) k (told e) next y t q f }
+
+      pub keep-row : b ≡ false → next ≡ out → i < 32 → Told → DropLoop ts n ns ps (i + 1) next
+      keep-row t f k e =
+          record { numbers = h .numbers; parents = h .parents; rows = kept-row blankToken (descends ts n) freshToken ts 32 i out b (h .rows) k (told e) next t f }
+
+pub ruleset drops = (drop-row, keep-row, drop-end, drop-size, drop-start, rows-length, needs)

@@ -1,19 +1,22 @@
 // Revoke: the owner of a volume drops a token and all its descendants.
 ghost use mathlib.Core.Path.{_≡_};
-ghost use Rattle.lists.specs.Lists.{anyOf};
 ghost use Rattle.rules.specs.Fresh.{freshToken};
-ghost use Rattle.rules.specs.Tables.{volumeOf, isToken, cleared};
-ghost use Rattle.rules.specs.Scope.{family, descends};
+ghost use Rattle.rules.specs.Tables.{volumeOf, cleared};
+ghost use Rattle.rules.specs.Scope.{descends};
 ghost use Rattle.rules.specs.TokenCalls.{revokeRule, revokeOwner};
+ghost use Rattle.tokens.specs.Descends.{inChain, descendsIn};
 ghost use Rattle.tokens.specs.Parts.{onTokens};
 use super::TokensOutcome;
 use super::answers::accept;
 use super::answers::refuse;
 use lists::Found;
+use rows::find_number;
 use rows::find_token;
 use rows::find_volume;
-use rows::is_number;
+use rows::is_wide_number;
 use rows::owned_by;
+use rows::token_numbers;
+use rows::token_parents;
 use rules::Account;
 use rules::Tables;
 use rules::Token;
@@ -22,47 +25,49 @@ use rules::fresh_token;
 use rules::numbers::NO_TOKEN;
 use rules::numbers::NOT_OWNER;
 
-// The token n is the token k or one of its ancestors, which are followed up to a chain of 8.
-fn in_chain(rows: [Token; 32], n: TokenNo, k: Token) -> bool
-    ensures { λ r. ⌜ r ≡ anyOf (isToken n) (family rows k) ⌝ }
+// The token n is the token `no` or one of its ancestors, which are followed up to a chain of 8. The lists are of the tokens' numbers and of their
+// parents' numbers.
+fn in_chain(numbers: &[u64; 32], parents: &[u64; 32], n: u64, no: u64, parent: u64) -> bool
+    ensures { λ r. ⌜ r ≡ inChain (now (numbers .entry)) (now (parents .entry)) n no parent ⌝ }
 {
-    if is_number(n.0, k.no.0) {
+    if is_wide_number(n, no) {
         return true;
     }
     let mut count: usize = 1;
-    let mut parent = k.parent.0;
+    let mut next = parent;
     while count < 8 {
-        let Found::At(i) = find_token(rows, TokenNo(parent)) else {
+        let Found::At(i) = find_number(numbers, next) else {
             return false;
         };
-        if is_number(n.0, rows[i].no.0) {
+        if is_wide_number(n, numbers[i]) {
             return true;
         }
-        parent = rows[i].parent.0;
+        next = parents[i];
         count += 1;
     }
     false
 }
 
 // The row is in use, and its token is n or a descendant of n.
-fn descends(rows: [Token; 32], n: TokenNo, k: Token) -> bool
-    ensures { λ r. ⌜ r ≡ descends rows n k ⌝ }
+fn descends(numbers: &[u64; 32], parents: &[u64; 32], n: u32, no: u32, parent: u32) -> bool
+    ensures { λ r. ⌜ r ≡ descendsIn (now (numbers .entry)) (now (parents .entry)) n no parent ⌝ }
 {
-    if k.no.0 == 0 {
+    if no == 0 {
         return false;
     }
-    in_chain(rows, n, k)
+    in_chain(numbers, parents, n as u64, no as u64, parent as u64)
 }
 
 // The table without the token n and its descendants: which they are is read from the rows as they came.
 fn without(rows: [Token; 32], n: TokenNo) -> [Token; 32]
     ensures { λ r. ⌜ r ≡ cleared (descends rows n) freshToken rows ⌝ }
 {
+    let numbers = token_numbers(rows);
+    let parents = token_parents(rows);
     let mut next = rows;
     let mut i: usize = 0;
     while i < 32 {
-        let k = rows[i];
-        if descends(rows, n, k) {
+        if descends(&numbers, &parents, n.0, rows[i].no.0, rows[i].parent.0) {
             next[i] = fresh_token();
         }
         i += 1;

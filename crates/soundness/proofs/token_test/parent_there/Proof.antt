@@ -1,9 +1,7 @@
-use Rattle.rules.specs.Sound.{parentThere}
 use Rattle.lists.specs.AnswerLaws.{passed}
 use borrow.Author.Needs.{needs}
 use Rattle.soundness.proofs.token_test.parent_there.Statement.{statement}
 use Rattle.soundness.proofs.token_test.parent_there.Tie as tie
 
 pub parent-there-spec : {M : Type 1} → statement M
-unfolding parentThere
-parent-there-spec = tie.close (tie.spec (λ c t e. search passed) (λ c κs. search needs) (λ c t e. rw e (search passed)))
+parent-there-spec = tie.close (tie.spec (λ c. search passed) (λ c κs. search needs) (λ c. search passed))

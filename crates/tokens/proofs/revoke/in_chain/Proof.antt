@@ -8,8 +8,8 @@ pub in-chain-spec : {M : Type 1} → statement M
 in-chain-spec =
     tie.close
     (tie.spec
-    (λ n rows count₀ parent₀ count parent. WalkLoop rows n parent₀ count parent)
-    (λ n rows count₀ parent₀ count parent. 8 - count)
+    (λ numbers parents n no parent count₀ next₀ count next. WalkLoop numbers parents n parent count next)
+    (λ numbers parents n no parent count₀ next₀ count next. 8 - count)
     (λ c κs. search walks)
     (λ c. search walks)
     (λ c. search walks)

@@ -2,16 +2,16 @@ use mathlib.Core.List.{map}
 use Prim.Native.Nat.{_-_}
 use lib.ListN.{replicate}
 use Rattle.lists.specs.ByteLoopLaws.{FillLoop, fills-of}
-use Rattle.soundness.specs.Numbers.{tokenNumber}
-use Rattle.soundness.proofs.numbers.token_numbers.Statement.{statement}
-use Rattle.soundness.proofs.numbers.token_numbers.Tie as tie
+use Rattle.rows.specs.Links.{tokenParent}
+use Rattle.rows.proofs.chain.token_parents.Statement.{statement}
+use Rattle.rows.proofs.chain.token_parents.Tie as tie
 
-pub token-numbers-spec : {M : Type 1} → statement M
-token-numbers-spec =
+pub token-parents-spec : {M : Type 1} → statement M
+token-parents-spec =
     tie.close
     (tie.spec
-    (λ rows numbers₀ i₀ numbers i. FillLoop (replicate 32 0) 0 (map tokenNumber rows) 32 i numbers)
-    (λ rows numbers₀ i₀ numbers i. 32 - i)
+    (λ rows parents₀ i₀ parents i. FillLoop (replicate 32 0) 0 (map tokenParent rows) 32 i parents)
+    (λ rows parents₀ i₀ parents i. 32 - i)
     (λ c. search fills-of)
     (λ c. search fills-of)
     (λ c. search fills-of)
