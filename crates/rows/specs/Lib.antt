@@ -1,3 +1,4 @@
 pub mod Blank
 pub mod ShardBytes
 pub mod ChainLaws
+pub mod EntryLaws
