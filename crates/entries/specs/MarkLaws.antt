@@ -1,25 +1,32 @@
 -- Laws of marks: marks by a test, the loops over marked rows, and relays to which marked entries give their room back. Assumes nothing.
 use mathlib.Core.Path.{_≡_, refl, sym, _∙_, ap}
-use mathlib.Core.Bool.{Bool, true, false, cond}
+use mathlib.Core.Bool.{Bool, true, false, cond, not}
 use mathlib.Core.List.{List, [], _∷_, map}
 use Prim.Native.Nat.{ℕ, zero, suc, _+_, _-_, _<_, _≤_}
 use native.Mathlib.Nat.{le-of-suc-le-suc, not-suc-le-zero}
 use native.Mathlib.Numerals.{add-one}
 use native.Mathlib.Omega.{arith}
 use borrow.Author.Needs.{needs}
-use lib.ListN.{length, drop, getD, set, drop-of-length-le}
+use borrow.Author.Tests.{not-true}
+use lib.ListN.{length, drop, getD, set, replicate, drop-of-length-le, List·getD-map, getD-replicate}
 use lib.Seq.{drop-cons}
-use Rattle.lists.specs.Lists.{keep}
+use Rattle.lists.specs.Lists.{anyOf, keep}
+use Rattle.lists.specs.BoolLaws.{or-left, or-right}
 use Rattle.lists.specs.RowLaws.{rows-length, map-after}
-use Rattle.lists.specs.ByteLoopLaws.{FillLoop, fill-start, fill-step-first, fill-same, fill-whole, fill-size}
+use Rattle.lists.specs.LoopLaws.{AnyLoop, any-found-all, any-step}
+use Rattle.lists.specs.ByteLoopLaws.{FillLoop, fill-start, fill-step-first, fill-step-of, fill-same, fill-whole, fill-size}
+use Rattle.rules.specs.declared.VolumeNo.{VolumeNo}
 use Rattle.rules.specs.declared.Volume.{Volume}
+use Rattle.rules.specs.declared.Put.{Put}
 use Rattle.rules.specs.declared.Entry.{Entry}
 use Rattle.rules.specs.declared.Relay.{Relay}
 use Rattle.rules.specs.Tables.{cleared}
+use Rattle.rules.specs.Commit.{isReplaced}
 use Rattle.rules.specs.Relays.{lightened}
+use Rattle.rows.specs.EntryLaws.{not-in-volume}
 use Rattle.rows.specs.Blank.{blankEntry}
 use Rattle.placing.specs.GiveLaws.{map-same, after-none, after-first}
-use Rattle.entries.specs.Marks.{marked, clearedBy}
+use Rattle.entries.specs.Marks.{isSet, marked, clearedBy}
 
 -- marks by a test
 pub marked-keep : {A : Type 0} (p : A → Bool) (l : List A) → marked (map p l) l ≡ keep p l
@@ -66,6 +73,42 @@ module _ {A : Type 0} (z : A) (ms : List Bool) (l : List A) (n : ℕ) where
 
       pub mark-kept : b ≡ false → next ≡ out → FillLoop l 0 (clearedBy ms z l) n (i + 1) next
       mark-kept t g = rw g (fill-same l (clearedBy ms z l) n i out d h k (rw t at row))
+
+-- the loop that looks for a mark
+module _ (ms : List Bool) (n i : ℕ) where
+  pub mark-set : getD ms i false ≡ true → i < n → AnyLoop isSet ms 0 n i → true ≡ anyOf isSet ms
+  mark-set e k h = any-found-all false isSet ms n i true h k (sym e) refl
+
+  pub mark-unset : getD ms i false ≡ false → i < n → AnyLoop isSet ms 0 n i → AnyLoop isSet ms 0 n (i + 1)
+  mark-unset e k h = any-step false isSet ms 0 n i false h k (sym e) refl
+
+-- where no mark is set, no row is marked, and nothing is given back
+none-marked : {A : Type 0} (ms : List Bool) (l : List A) → anyOf isSet ms ≡ false → marked ms l ≡ []
+unfolding marked anyOf
+none-marked [] l e = refl
+none-marked (b ∷ bs) [] e = refl
+none-marked (b ∷ bs) (x ∷ xs) e = rw (or-left b (anyOf isSet bs) e) (none-marked bs xs (or-right b (anyOf isSet bs) e))
+
+pub give-none : (vs : List Volume) (es : List Entry) (ms : List Bool) (rs : List Relay) (r : Bool) → not r ≡ true → r ≡ anyOf isSet ms
+    → rs ≡ map (lightened vs (marked ms es)) rs
+give-none vs es ms rs r f e = sym (rw (none-marked ms es (sym e ∙ not-true r f)) (map-same (lightened vs []) rs (after-none vs)))
+
+-- the loop that marks the rows that pass p: b is what the code's test said of row i, and next the marks after it
+module _ {A : Type 0} (d : A) (p : A → Bool) (l : List A) (n i : ℕ) (out next : List Bool) where
+  pub row-marked : (b : Bool) → next ≡ set out i b → b ≡ p (getD l i d) → i < n → FillLoop (replicate n false) 0 (map p l) n i out
+      → FillLoop (replicate n false) 0 (map p l) n (i + 1) next
+  row-marked b g e k h = rw g (fill-step-of p d (replicate n false) l n i out b h k e)
+
+  pub row-unmarked : next ≡ out → p (getD l i d) ≡ false → i < n → FillLoop (replicate n false) 0 (map p l) n i out
+      → FillLoop (replicate n false) 0 (map p l) n (i + 1) next
+  row-unmarked g e k h =
+      rw g
+      (fill-same (replicate n false) (map p l) n i out (p d) h k (List·getD-map p l i d ∙ e ∙ sym (getD-replicate n i false (p d) k)))
+
+-- an entry of another volume is not replaced
+pub not-replaced : (v : VolumeNo) (ps : List Put) (e : Entry) → (e .volume .0 ≡ v .0 → ⊥) → isReplaced v ps e ≡ false
+unfolding isReplaced
+not-replaced v ps e h = rw (not-in-volume v e h)
 
 -- the loop over the entries: what is left to give back, from the relays as they are, is what all marked entries give back
 pub record GiveLoop (vs : List Volume) (es : List Entry) (ms : List Bool) (rs₀ rs : List Relay) (i : ℕ) : Type 0 where

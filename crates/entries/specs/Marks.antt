@@ -3,6 +3,10 @@
 use mathlib.Core.Bool.{Bool, cond}
 use mathlib.Core.List.{List, [], _∷_}
 
+-- a mark, as a test
+abbrev pub isSet : Bool → Bool
+isSet b = b
+
 -- the marked rows, in order
 unfoldable pub marked : {A : Type 0} → List Bool → List A → List A
 marked [] l = []

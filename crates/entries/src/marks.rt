@@ -1,10 +1,11 @@
 // Entries that go: marked, then given back, then cleared.
 ghost use mathlib.Core.Path.{_≡_};
 ghost use mathlib.Core.List.{map};
+ghost use Rattle.lists.specs.Lists.{anyOf};
 ghost use Rattle.rules.specs.Fresh.{freshEntry};
 ghost use Rattle.rules.specs.Tables.{isEntry};
 ghost use Rattle.rules.specs.Relays.{lightened};
-ghost use Rattle.entries.specs.Marks.{marked, clearedBy};
+ghost use Rattle.entries.specs.Marks.{isSet, marked, clearedBy};
 use placing::give_back_entry;
 use rows::is_entry;
 use rules::Entry;
@@ -12,15 +13,17 @@ use rules::Relay;
 use rules::Volume;
 use rules::VolumeNo;
 
-// A mark for each entry: whether it is this volume's at this path.
+// A mark for each entry: whether it is this volume's at this path. A row of another volume is not copied.
 pub fn mark_path(entries: [Entry; 64], n: VolumeNo, path: &[u8]) -> [bool; 64]
     ensures { λ r. ⌜ r ≡ map (isEntry n (now (path .entry))) entries ⌝ }
 {
     let mut marks = [false; 64];
     let mut i: usize = 0;
     while i < 64 {
-        let e = entries[i];
-        marks[i] = is_entry(e, n, path);
+        if entries[i].volume.0 == n.0 {
+            let e = entries[i];
+            marks[i] = is_entry(e, n, path);
+        }
         i += 1;
     }
     marks
@@ -42,7 +45,21 @@ pub fn clear_marked(entries: [Entry; 64], marks: [bool; 64]) -> [Entry; 64]
     left
 }
 
-// The relays after each marked entry gave its room and held shards back.
+// Whether a mark is set.
+fn any_mark(marks: &[bool]) -> bool
+    ensures { λ r. ⌜ r ≡ anyOf isSet (now (marks .entry)) ⌝ }
+{
+    let mut i: usize = 0;
+    while i < marks.len() {
+        if marks[i] {
+            return true;
+        }
+        i += 1;
+    }
+    false
+}
+
+// The relays after each marked entry gave its room and held shards back. Where none is marked they go back at once.
 pub fn give_back(
     volumes: [Volume; 8],
     entries: [Entry; 64],
@@ -51,6 +68,9 @@ pub fn give_back(
 ) -> [Relay; 32]
     ensures { λ r. ⌜ r ≡ map (lightened volumes (marked marks entries)) relays ⌝ }
 {
+    if !any_mark(&marks) {
+        return relays;
+    }
     let mut rows = relays;
     let mut i: usize = 0;
     while i < 64 {

@@ -29,15 +29,17 @@ pub fn is_replaced(e: Entry, n: VolumeNo, puts: [Put; 8], count: usize) -> bool
     is_staged(puts, count, path)
 }
 
-// A mark for each entry: whether one of the first `count` puts replaces it.
+// A mark for each entry: whether one of the first `count` puts replaces it. A row of another volume is not copied.
 pub fn mark_replaced(entries: [Entry; 64], n: VolumeNo, puts: [Put; 8], count: usize) -> [bool; 64]
     ensures { λ r. ⌜ r ≡ map (isReplaced n (take count puts)) entries ⌝ }
 {
     let mut marks = [false; 64];
     let mut i: usize = 0;
     while i < 64 {
-        let e = entries[i];
-        marks[i] = is_replaced(e, n, puts, count);
+        if entries[i].volume.0 == n.0 {
+            let e = entries[i];
+            marks[i] = is_replaced(e, n, puts, count);
+        }
         i += 1;
     }
     marks

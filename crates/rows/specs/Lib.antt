@@ -3,3 +3,4 @@ pub mod ShardBytes
 pub mod ChainLaws
 pub mod Links
 pub mod LinkLaws
+pub mod EntryLaws

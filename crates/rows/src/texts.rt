@@ -26,14 +26,17 @@ pub fn is_entry(e: Entry, n: VolumeNo, path: &[u8]) -> bool
     same_text(p, path)
 }
 
+// A row of another volume is not copied.
 pub fn find_entry(rows: [Entry; 64], n: VolumeNo, path: &[u8]) -> Found
     ensures { λ r. ⌜ r ≡ firstAt (isEntry n (now (path .entry))) 0 rows ⌝ }
 {
     let mut i: usize = 0;
     while i < 64 {
-        let e = rows[i];
-        if is_entry(e, n, path) {
-            return Found::At(i);
+        if rows[i].volume.0 == n.0 {
+            let e = rows[i];
+            if is_entry(e, n, path) {
+                return Found::At(i);
+            }
         }
         i += 1;
     }

@@ -1,3 +1,4 @@
+pub mod NewTokenLaws
 pub mod RowAnswers
 pub mod ScopeLaws
 pub mod WalkLaws

@@ -48,7 +48,7 @@ fn attenuate_in(
     let volume = k.volume;
     let no = k.no;
     let scope = make_scope(prefix, mode, cap, from, until);
-    new_token(t, volume, no, scope)
+    new_token(rows, t.last_token, volume, no, scope)
 }
 
 // The token n gets a child whose scope lies within its own.

@@ -49,7 +49,8 @@ fn grant_in(
     }
     let volume = v.no;
     let scope = make_scope(prefix, mode, cap, from, until);
-    new_token(t, volume, TokenNo(0), scope)
+    let rows = t.tokens;
+    new_token(rows, t.last_token, volume, TokenNo(0), scope)
 }
 
 // The owner of the volume n gets a token for what lies under the prefix.

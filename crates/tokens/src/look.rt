@@ -6,9 +6,9 @@ ghost use Rattle.rules.specs.TokenCalls.{lookRule, lookIn, lookEntry};
 ghost use Rattle.tokens.specs.Parts.{unchanged};
 use lists::Found;
 use rows::can_read;
-use rows::find_entry;
 use rows::find_token;
 use rows::in_window;
+use rows::is_entry;
 use rules::Answer;
 use rules::Tables;
 use rules::Token;
@@ -24,17 +24,23 @@ use rules::refusal;
 use rules::success_with;
 use text::path::is_path;
 
-// The entry's size, and its hash handed back.
+// The entry's size, and its hash handed back. A row of another volume is not copied.
 fn look_entry(t: Tables, n: VolumeNo, path: &[u8]) -> Answer
     ensures { λ r. ⌜ unchanged t r ≡ lookEntry t (entryOf n (now (path .entry)) t) ⌝ }
 {
     let rows = t.entries;
-    let Found::At(i) = find_entry(rows, n, path) else {
-        return refusal(NO_ENTRY);
-    };
-    let e = rows[i];
-    let hash = e.hash;
-    success_with(e.size, hash)
+    let mut i: usize = 0;
+    while i < 64 {
+        if rows[i].volume.0 == n.0 {
+            let e = rows[i];
+            if is_entry(e, n, path) {
+                let hash = e.hash;
+                return success_with(e.size, hash);
+            }
+        }
+        i += 1;
+    }
+    refusal(NO_ENTRY)
 }
 
 // From the token's row on.

@@ -1,41 +1,60 @@
 // A new token takes the next number and the lowest free row.
 ghost use mathlib.Core.Path.{_≡_};
 ghost use Rattle.lists.specs.Lists.{find};
+ghost use Rattle.rules.specs.declared.Tables.{Tables};
 ghost use Rattle.rules.specs.Tables.{freeToken};
 ghost use Rattle.rules.specs.TokenCalls.{tokenIn, newToken};
-ghost use Rattle.tokens.specs.Parts.{onTokens};
+ghost use Rattle.tokens.specs.Parts.{onTokens, tokensLeft};
 use super::TokensOutcome;
-use super::answers::accept;
-use super::answers::refuse;
 use lists::Found;
 use rows::free_token;
 use rules::Scope;
-use rules::Tables;
 use rules::Token;
 use rules::TokenNo;
 use rules::VolumeNo;
 use rules::numbers::ROOM;
 use rules::numbers::SPENT;
 
-// The token takes the lowest free row, and its number is the last one given.
-fn place_token(t: Tables, k: Token) -> TokensOutcome
-    ensures { λ r. ⌜ onTokens t r ≡ tokenIn t k (find freeToken (t .tokens)) ⌝ }
+// A refusal leaves the tokens and the last number as they are.
+fn keep(rows: [Token; 32], last: u32, n: u32) -> TokensOutcome
+    ensures { λ r. ⌜ r ≡ tokensLeft rows last n ⌝ }
 {
-    let rows = t.tokens;
-    let Found::At(i) = free_token(rows) else {
-        return refuse(t, ROOM);
-    };
-    let mut next = rows;
-    next[i] = k;
-    accept(t, k.no.0 as u64, next, k.no.0)
+    let answer = rules::refusal(n);
+    TokensOutcome {
+        answer,
+        tokens: rows,
+        last,
+    }
 }
 
-pub(crate) fn new_token(t: Tables, volume: VolumeNo, parent: TokenNo, scope: Scope) -> TokensOutcome
-    ensures { λ r. ⌜ onTokens t r ≡ newToken t volume parent scope ⌝ }
+// The token takes the lowest free row, and its number is the last one given. Of the tables, only these rows and the last number are handed on.
+fn place_token(rows: [Token; 32], last: u32, k: Token) -> TokensOutcome
+    ensures { λ r. ⌜ ((t : Tables) → t .tokens ≡ rows → t .«last_token» ≡ last → onTokens t r ≡ tokenIn t k (find freeToken rows)) ⌝ }
 {
-    let last = t.last_token;
+    let Found::At(i) = free_token(rows) else {
+        return keep(rows, last, ROOM);
+    };
+    let mut tokens = rows;
+    tokens[i] = k;
+    let answer = rules::success(k.no.0 as u64);
+    TokensOutcome {
+        answer,
+        tokens,
+        last: k.no.0,
+    }
+}
+
+pub(crate) fn new_token(
+    rows: [Token; 32],
+    last: u32,
+    volume: VolumeNo,
+    parent: TokenNo,
+    scope: Scope,
+) -> TokensOutcome
+    ensures { λ r. ⌜ ((t : Tables) → t .tokens ≡ rows → t .«last_token» ≡ last → onTokens t r ≡ newToken t volume parent scope) ⌝ }
+{
     if 65535 <= last {
-        return refuse(t, SPENT);
+        return keep(rows, last, SPENT);
     }
     let k = Token {
         no: TokenNo(last + 1),
@@ -44,5 +63,5 @@ pub(crate) fn new_token(t: Tables, volume: VolumeNo, parent: TokenNo, scope: Sco
         scope,
         used: 0,
     };
-    place_token(t, k)
+    place_token(rows, last, k)
 }

@@ -2,9 +2,13 @@
 use Prim.Native.Nat.{_-_}
 use mathlib.Core.Bool.{false}
 use mathlib.Core.List.{map}
+use mathlib.Core.Logic.{⊎-elim}
 use lib.ListN.{replicate, take}
 use Rattle.lists.specs.ByteLoopLaws.{FillLoop, fills-of}
 use Rattle.rules.specs.Commit.{isReplaced}
+use Rattle.rows.specs.Blank.{blankEntry}
+use Rattle.entries.specs.MarkLaws.{row-marked, row-unmarked, not-replaced}
+use borrow.Author.Needs.{needs}
 use Rattle.entries.proofs.stores.mark_replaced.Statement.{statement}
 use Rattle.entries.proofs.stores.mark_replaced.Tie as tie
 
@@ -17,9 +21,11 @@ mark-replaced-spec =
     (λ c. search fills-of)
     (λ c. search fills-of)
     (λ c. search fills-of)
-    (λ c κs. search fills-of)
+    (λ c. search fills-of)
+    (λ c. search fills-of)
+    (λ c κs. search needs)
     (λ c. search fills-of)
     (λ c. search fills-of)
     (λ c. search fills-of)
-    (λ c. search fills-of)
+    (λ c. ⊎-elim (λ w. search (row-marked blankEntry, needs)) (λ w. search (row-unmarked blankEntry, not-replaced, needs)) (c .if1 .came))
     (λ c. search fills-of))

@@ -1,6 +1,9 @@
 use Prim.Native.Nat.{_-_}
+use mathlib.Core.Logic.{⊎-elim}
 use Rattle.rules.specs.Tables.{isEntry}
 use Rattle.lists.specs.LoopLaws.{FindLoop, finds}
+use Rattle.rows.specs.EntryLaws.{entry-here, entry-past}
+use borrow.Author.Needs.{needs}
 use Rattle.rows.proofs.texts.find_entry.Statement.{statement}
 use Rattle.rows.proofs.texts.find_entry.Tie as tie
 
@@ -13,9 +16,11 @@ find-entry-spec =
     (λ c. search finds)
     (λ c. search finds)
     (λ c. search finds)
+    (λ c. search finds)
+    (λ c. search finds)
     (λ c κs. search finds)
+    (λ c. search (entry-here, needs))
     (λ c. search finds)
     (λ c. search finds)
-    (λ c. search finds)
-    (λ c. search finds)
+    (λ c. ⊎-elim (λ w. search finds) (λ w. search (entry-past, needs)) (c .if1 .came))
     (λ c. search finds))

@@ -2,6 +2,7 @@
 use Rattle.rules.specs.TokenCalls.{attenuateIn}
 use Rattle.lists.specs.AnswerLaws.{checks}
 use Rattle.tokens.proofs.RowAnswers.{counted-most, counted-less}
+use Rattle.tokens.proofs.NewTokenLaws.{token-told}
 use Rattle.tokens.proofs.ScopeLaws.{token-with}
 use borrow.Author.Needs.{needs}
 use Rattle.tokens.proofs.attenuate.attenuate_in.Statement.{statement}
@@ -20,4 +21,4 @@ attenuate-in-spec =
     (λ c. search (checks, counted-most))  -- DEEP
     (λ c κs. search needs)
     (λ c κs. search needs)
-    (λ c. search (checks, counted-less, token-with)))  -- a new token
+    (λ c. search (checks, counted-less, token-with, token-told)))  -- a new token

@@ -1,7 +1,10 @@
 -- `look::look_entry` meets its contract: the row of its path. Assumes nothing.
+use Prim.Native.Nat.{_-_}
+use mathlib.Core.Logic.{⊎-elim}
 use Rattle.rules.specs.TokenCalls.{lookEntry}
-use Rattle.rules.specs.Tables.{entryOf}
-use Rattle.lists.specs.AnswerLaws.{in-table}
+use Rattle.rules.specs.Tables.{entryOf, isEntry}
+use Rattle.lists.specs.LoopLaws.{FindLoop, finds}
+use Rattle.rows.specs.EntryLaws.{entry-past}
 use Rattle.tokens.proofs.RowAnswers.{entry-none, entry-at, answers, refuses}
 use borrow.Author.Needs.{needs}
 use Rattle.tokens.proofs.look.look_entry.Statement.{statement}
@@ -12,12 +15,18 @@ unfolding lookEntry entryOf
 look-entry-spec =
     tie.close
     (tie.spec
+    (λ n path rows i₀ i. FindLoop (isEntry n path) rows 64 i)
+    (λ n path rows i₀ i. 64 - i)
+    (λ c. search finds)
+    (λ c. search finds)
+    (λ c. search finds)
+    (λ c. search finds)
+    (λ c. search finds)
     (λ c κs. search needs)
-    (λ c. search needs)
-    (λ c. search needs)
     (λ c κs. search needs)
-    (λ c. search (entry-none, refuses))  -- NO_ENTRY
-    (λ c. search in-table)
-    (λ c. search in-table)
+    (λ c. search (entry-at, answers, needs))  -- success
+    (λ c. search finds)
+    (λ c. search finds)
+    (λ c. ⊎-elim (λ w. search finds) (λ w. search (entry-past, needs)) (c .if1 .came))
     (λ c κs. search needs)
-    (λ c. search (entry-at, answers)))  -- success
+    (λ c. search (entry-none, refuses, needs)))  -- NO_ENTRY

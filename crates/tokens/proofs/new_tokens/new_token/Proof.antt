@@ -1,17 +1,15 @@
 -- `new_tokens::new_token` meets its contract: the next number, where there is one. Assumes nothing.
-use Rattle.rules.specs.TokenCalls.{newToken}
-use Rattle.lists.specs.AnswerLaws.{checks}
+use Rattle.tokens.proofs.NewTokenLaws.{token-spent, token-next}
 use borrow.Author.Needs.{needs}
 use Rattle.tokens.proofs.new_tokens.new_token.Statement.{statement}
 use Rattle.tokens.proofs.new_tokens.new_token.Tie as tie
 
 pub new-token-spec : {M : Type 1} → statement M
-unfolding newToken
 new-token-spec =
     tie.close
     (tie.spec
     (λ c κs. search needs)
-    (λ c. search checks)  -- SPENT
+    (λ c t e f. search token-spent)  -- SPENT
     (λ c. search needs)
     (λ c κs. search needs)
-    (λ c. search checks))  -- then its row
+    (λ c t e f. search token-next))  -- then its row

@@ -2,6 +2,7 @@
 use Rattle.rules.specs.TokenCalls.{tokenIn}
 use Rattle.lists.specs.AnswerLaws.{in-table}
 use Rattle.tokens.proofs.RowAnswers.{place-none, place-at}
+use Rattle.tokens.proofs.NewTokenLaws.{token-refused, token-placed}
 use borrow.Author.Needs.{needs}
 use Rattle.tokens.proofs.new_tokens.place_token.Statement.{statement}
 use Rattle.tokens.proofs.new_tokens.place_token.Tie as tie
@@ -15,9 +16,9 @@ place-token-spec =
     (λ c. search needs)
     (λ c. search needs)
     (λ c κs. search needs)
-    (λ c. search place-none)  -- ROOM
+    (λ c t e f. search (place-none, token-refused))  -- ROOM
     (λ c. search in-table)
     (λ c. search in-table)
     (λ c. search needs)
     (λ c κs. search needs)
-    (λ c. search place-at))  -- success
+    (λ c t e f. search (place-at, token-placed)))  -- success
