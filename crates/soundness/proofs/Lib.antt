@@ -2,5 +2,6 @@ pub mod FillLaws
 pub mod KeyLaws
 pub mod NextLaws
 pub mod NumberLaws
+pub mod PutKeyLaws
 pub mod ShardLaws
 pub mod Told
