@@ -3,5 +3,6 @@ pub mod KeyLaws
 pub mod NextLaws
 pub mod NumberLaws
 pub mod PlaceLaws
+pub mod PutKeyLaws
 pub mod ShardLaws
 pub mod Told

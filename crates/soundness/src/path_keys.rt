@@ -7,7 +7,7 @@ use super::placements::least;
 use rules::Entry;
 
 // The sum of n, of n and the first byte, of n and the first two bytes, and so on, of the first `len` bytes.
-fn key_of(n: u32, bytes: [u8; 128], len: usize) -> u64
+pub(crate) fn key_of(n: u32, bytes: [u8; 128], len: usize) -> u64
     ensures { λ r. ⌜ r ≡ keyOf n (take len bytes) ⌝ }
 {
     let count = least(len, 128);

@@ -1,9 +1,13 @@
 // The session slots: their numbers were given, and their staged puts. They need not be in the tables.
 ghost use mathlib.Core.Path.{_≡_};
-ghost use lib.ListN.{drop, take};
-ghost use Rattle.lists.specs.Lists.{allOf, anyOf, noClash};
+ghost use mathlib.Core.List.{map};
+ghost use Prim.Native.Nat.{_≤_};
+ghost use lib.ListN.{take};
+ghost use Rattle.lists.specs.Lists.{allOf, noClash};
 ghost use Rattle.rules.specs.declared.Tables.{Tables};
 ghost use Rattle.rules.specs.Sound.{soundPut, samePath, soundSession};
+ghost use Rattle.soundness.specs.PathKeys.{putKey};
+use super::path_keys::key_of;
 use super::placements::least;
 use rows::is_given;
 use rules::Put;
@@ -46,32 +50,42 @@ fn same_path(a: Put, b: Put) -> bool
     same_texts(x, y)
 }
 
-// Whether a put from an index on has the same path.
-fn path_again(rows: [Put; 8], count: usize, a: Put, start: usize) -> bool
-    ensures { λ r. ⌜ r ≡ anyOf (samePath a) (drop start (take count rows)) ⌝ }
+// A number for each of the first n puts, which puts of the same path share.
+fn put_keys(rows: [Put; 8], n: usize) -> [u64; 8]
+    requires { ⌜ n ≤ 8 ⌝ }
+    ensures { λ r. ⌜ take n r ≡ take n (map putKey rows) ⌝ }
 {
-    let n = least(count, 8);
-    let mut i = start;
+    let mut keys = [0u64; 8];
+    let mut i: usize = 0;
     while i < n {
-        let b = rows[i];
-        if same_path(a, b) {
-            return true;
-        }
+        let p = rows[i];
+        let path = p.path;
+        let bytes = path.bytes;
+        keys[i] = key_of(1, bytes, path.len);
         i += 1;
     }
-    false
+    keys
 }
 
-// No path is staged twice.
+// No path is staged twice. Only puts of the same key are compared.
 fn paths_differ(rows: [Put; 8], count: usize) -> bool
     ensures { λ r. ⌜ r ≡ noClash samePath (take count rows) ⌝ }
 {
     let n = least(count, 8);
+    let keys = put_keys(rows, n);
     let mut i: usize = 0;
     while i < n {
-        let p = rows[i];
-        if path_again(rows, count, p, i + 1) {
-            return false;
+        let key = keys[i];
+        let mut j = i + 1;
+        while j < n {
+            if keys[j] == key {
+                let a = rows[i];
+                let b = rows[j];
+                if same_path(a, b) {
+                    return false;
+                }
+            }
+            j += 1;
         }
         i += 1;
     }
