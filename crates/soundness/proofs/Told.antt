@@ -21,7 +21,6 @@ use Rattle.lists.specs.LoopLaws.{AllLoop, all-step, ClashLoop, clash-step}
 use Rattle.lists.specs.TestLaws.{at-none}
 use Rattle.lists.specs.RowLaws.{any-map}
 use Rattle.rows.specs.Links.{tokenNumber, tokenParent}
-use Rattle.soundness.specs.Numbers.{volumeNumber}
 use Rattle.rules.specs.declared.Placement.{Placement}
 use Rattle.rules.specs.declared.Volume.{Volume}
 use Rattle.rules.specs.declared.Token.{Token}
