@@ -3,3 +3,4 @@ pub mod QuotaLaws
 pub mod PlaceLoops
 pub mod SizeLaws
 pub mod CommitLaws
+pub mod WithinRows

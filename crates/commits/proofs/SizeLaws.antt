@@ -31,6 +31,8 @@ use Rattle.rules.specs.Laws.ApartLaws.{used-not-free, other-part}
 use Rattle.rules.specs.Laws.NumberLaws.{numbered-used}
 use Rattle.rules.specs.Scope.{passesCap}
 use Rattle.rules.specs.Commit.{putSize, stagedBytes, isReplaced, isKept, sizesAfter, isNewPath, passesSize, belowRent}
+use Rattle.rows.specs.Blank.{blankEntry}
+use Rattle.rows.specs.EntryLaws.{not-in-volume}
 use Rattle.rents.specs.declared.Rent.{Rent}
 use Rattle.rents.specs.declared.Rent.the-variants.{Coins, PastLimits}
 use Rattle.rents.specs.Within.{rawLimit, rentWithin}
@@ -123,6 +125,11 @@ module _ (n : VolumeNo) (ps : List Put) (es : List Entry) where
 
       pub kept-skips : (s : ℕ) → b ≡ false → s ≡ sum → KeptLoop n ps es (i + 1) s
       kept-skips s t q = rw q (record { loop = sum-skips d (keptSize n ps) es 64 i sum (h .loop) low (rw (sym e ∙ t)) })
+
+    -- an entry of another volume adds nothing
+    pub kept-other : (s : ℕ) → (getD es i blankEntry .volume .0 ≡ n .0 → ⊥) → s ≡ sum → i < 64 → KeptLoop n ps es (i + 1) s
+    unfolding isKept
+    kept-other s w q k = kept-skips blankEntry false k (sym (rw (not-in-volume n (getD es i blankEntry) w))) s refl q
 
 pub ruleset keeps = (kept-adds, kept-skips, kept-fits, kept-end, kept-most, kept-start, rows-length, needs)
 

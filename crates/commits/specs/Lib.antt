@@ -1,3 +1,4 @@
+pub mod Charge
 pub mod Parts
 pub mod Within
 pub mod Stored

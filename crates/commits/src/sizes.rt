@@ -49,7 +49,7 @@ fn is_kept(e: Entry, n: VolumeNo, puts: [Put; 8], count: usize) -> bool
     !is_replaced(e, n, puts, count)
 }
 
-// The bytes of the volume's entries that stay.
+// The bytes of the volume's entries that stay. A row of another volume is not copied.
 pub(crate) fn kept_bytes(entries: [Entry; 64], n: VolumeNo, puts: [Put; 8], count: usize) -> u64
     requires { ⌜ allOf entryWithin entries ≡ true ⌝ }
     ensures { λ r. ⌜ (r ≡ keptBytes n (take count puts) entries) × (r ≤ 64 * 2 ^ 36) ⌝ }
@@ -57,9 +57,11 @@ pub(crate) fn kept_bytes(entries: [Entry; 64], n: VolumeNo, puts: [Put; 8], coun
     let mut sum: u64 = 0;
     let mut i: usize = 0;
     while i < 64 {
-        let e = entries[i];
-        if is_kept(e, n, puts, count) {
-            sum += e.size;
+        if entries[i].volume.0 == n.0 {
+            let e = entries[i];
+            if is_kept(e, n, puts, count) {
+                sum += e.size;
+            }
         }
         i += 1;
     }

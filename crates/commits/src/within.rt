@@ -22,24 +22,6 @@ fn volume_within(v: Volume) -> bool
     shards_fit(v.k, v.m)
 }
 
-fn entry_within(e: Entry) -> bool
-    ensures { λ r. ⌜ r ≡ entryWithin e ⌝ }
-{
-    if e.volume.0 == 0 {
-        return true;
-    }
-    e.size <= 68719476736
-}
-
-fn token_within(k: Token) -> bool
-    ensures { λ r. ⌜ r ≡ tokenWithin k ⌝ }
-{
-    if k.no.0 == 0 {
-        return true;
-    }
-    k.used <= 1152921504606846976
-}
-
 fn relay_within(x: Relay) -> bool
     ensures { λ r. ⌜ r ≡ relayWithin x ⌝ }
 {
@@ -77,9 +59,10 @@ fn all_entries(rows: [Entry; 64]) -> bool
 {
     let mut i: usize = 0;
     while i < 64 {
-        let e = rows[i];
-        if !entry_within(e) {
-            return false;
+        if rows[i].volume.0 != 0 {
+            if 68719476736 < rows[i].size {
+                return false;
+            }
         }
         i += 1;
     }
@@ -91,9 +74,10 @@ fn all_tokens(rows: [Token; 32]) -> bool
 {
     let mut i: usize = 0;
     while i < 32 {
-        let k = rows[i];
-        if !token_within(k) {
-            return false;
+        if rows[i].no.0 != 0 {
+            if 1152921504606846976 < rows[i].used {
+                return false;
+            }
         }
         i += 1;
     }

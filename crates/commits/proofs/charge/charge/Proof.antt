@@ -1,10 +1,10 @@
 -- `charge::charge` meets its contract: row by row. Assumes nothing.
+use mathlib.Core.Logic.{⊎-elim}
 use Prim.Native.Nat.{_-_}
 use mathlib.Core.List.{map}
-use lib.ListN.{take}
 use Rattle.lists.specs.ByteLoopLaws.{FillLoop, fills-of}
-use Rattle.rules.specs.Commit.{charged}
-use Rattle.commits.proofs.QuotaLaws.{token-within}
+use Rattle.commits.proofs.QuotaLaws.{chargedBy, token-most, charge-free, charge-other, charge-one, charge-end}
+use borrow.Author.Needs.{needs}
 use Rattle.commits.proofs.charge.charge.Statement.{statement}
 use Rattle.commits.proofs.charge.charge.Tie as tie
 
@@ -12,15 +12,22 @@ pub charge-spec : {M : Type 1} → statement M
 charge-spec =
     tie.close
     (tie.spec
-    (λ f bytes rows out₀ i₀ out i. FillLoop rows 0 (map (charged (take (f .len) (f .tokens)) bytes) rows) 32 i out)
-    (λ f bytes rows out₀ i₀ out i. 32 - i)
+    (λ bytes rows numbers out₀ i₀ out i. FillLoop rows 0 (map (chargedBy numbers bytes) rows) 32 i out)
+    (λ bytes rows numbers out₀ i₀ out i. 32 - i)
+    (λ c κs. search needs)
     (λ c. search fills-of)
     (λ c. search fills-of)
     (λ c. search fills-of)
-    (λ c κs. search (token-within, fills-of))
+    (λ c. search needs)
+    (λ c. search fills-of)
+    (λ c. search fills-of)
+    (λ c κs. search needs)
+    (λ c. search fills-of)
+    (λ c. search fills-of)
+    (λ c κs. search (token-most, fills-of))
     (λ c. search fills-of)
     (λ c. search fills-of)
     (λ c. search fills-of)
     (λ c. search fills-of)
-    (λ c. search fills-of)
-    (λ c. search fills-of))
+    (λ c. ⊎-elim (λ w. search (charge-one, needs)) (λ v. ⊎-elim (λ w. search (charge-other, needs)) (λ w. search (charge-free, needs)) v) (c .if1 .came))
+    (λ c. search (charge-end, fills-of)))

@@ -2,7 +2,8 @@
 use mathlib.Core.Logic.{⊎-elim}
 use Prim.Native.Nat.{_-_}
 use lib.ListN.{take}
-use Rattle.commits.proofs.SizeLaws.{KeptLoop, keeps}
+use Rattle.commits.proofs.SizeLaws.{KeptLoop, keeps, kept-other}
+use borrow.Author.Needs.{needs}
 use Rattle.commits.proofs.sizes.kept_bytes.Statement.{statement}
 use Rattle.commits.proofs.sizes.kept_bytes.Tie as tie
 
@@ -15,9 +16,11 @@ kept-bytes-spec =
     (λ c. search keeps)
     (λ c. search keeps)
     (λ c. search keeps)
+    (λ c. search keeps)
+    (λ c. search keeps)
     (λ c κs. search keeps)
     (λ c. search keeps)
     (λ c. search keeps)
     (λ c. search keeps)
-    (λ c. ⊎-elim (λ w. search keeps) (λ w. search keeps) (c .if1 .came))
+    (λ c. ⊎-elim (λ w. search keeps) (λ v. ⊎-elim (λ w. search keeps) (λ w. search (kept-other, needs)) v) (c .if1 .came))
     (λ c. search keeps))

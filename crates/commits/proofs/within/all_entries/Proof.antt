@@ -1,7 +1,10 @@
 -- `within::all_entries` meets its contract: the loop of a test of all rows. Assumes nothing.
 use Prim.Native.Nat.{_-_}
+use mathlib.Core.Logic.{⊎-elim}
 use Rattle.lists.specs.LoopLaws.{AllLoop, alls}
 use Rattle.commits.specs.Within.{entryWithin}
+use Rattle.commits.proofs.WithinRows.{entry-over, entry-under, entry-free}
+use borrow.Author.Needs.{needs}
 use Rattle.commits.proofs.within.all_entries.Statement.{statement}
 use Rattle.commits.proofs.within.all_entries.Tie as tie
 
@@ -14,9 +17,10 @@ all-entries-spec =
     (λ c. search alls)
     (λ c. search alls)
     (λ c. search alls)
-    (λ c κs. search alls)
     (λ c. search alls)
     (λ c. search alls)
+    (λ c. search (entry-over, needs))
     (λ c. search alls)
     (λ c. search alls)
+    (λ c. ⊎-elim (λ w. search (entry-under, needs)) (λ w. search (entry-free, needs)) (c .if1 .came))
     (λ c. search alls))

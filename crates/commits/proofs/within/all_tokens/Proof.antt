@@ -1,7 +1,10 @@
 -- `within::all_tokens` meets its contract: the loop of a test of all rows. Assumes nothing.
 use Prim.Native.Nat.{_-_}
+use mathlib.Core.Logic.{⊎-elim}
 use Rattle.lists.specs.LoopLaws.{AllLoop, alls}
 use Rattle.commits.specs.Within.{tokenWithin}
+use Rattle.commits.proofs.WithinRows.{token-over, token-under, token-free}
+use borrow.Author.Needs.{needs}
 use Rattle.commits.proofs.within.all_tokens.Statement.{statement}
 use Rattle.commits.proofs.within.all_tokens.Tie as tie
 
@@ -14,9 +17,10 @@ all-tokens-spec =
     (λ c. search alls)
     (λ c. search alls)
     (λ c. search alls)
-    (λ c κs. search alls)
     (λ c. search alls)
     (λ c. search alls)
+    (λ c. search (token-over, needs))
     (λ c. search alls)
     (λ c. search alls)
+    (λ c. ⊎-elim (λ w. search (token-under, needs)) (λ w. search (token-free, needs)) (c .if1 .came))
     (λ c. search alls))
