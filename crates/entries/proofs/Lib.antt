@@ -2,3 +2,4 @@ pub mod CountLaws
 pub mod PathLaws
 pub mod RemoveLaws
 pub mod StoreLaws
+pub mod FlagLaws

@@ -1,6 +1,6 @@
 -- Rows by a path that is a text: what was found at the part of the text's array that was lent, and whether there is such a row. Assumes nothing.
 use mathlib.Core.Path.{_≡_, sym, _∙_}
-use mathlib.Core.Bool.{Bool, true, false, not}
+use mathlib.Core.Bool.{Bool, true, false}
 use mathlib.Core.Logic.{⊎-elim}
 use mathlib.Core.List.{List}
 use Prim.Native.Nat.{ℕ, _<_, _≤_}
@@ -43,12 +43,6 @@ module _ {A : Type 0} (p : A → Bool) (l : List A) (f : Found) (e : f ≡ first
   pub row-missing : f ≡ Nothing → anyOf p l ≡ false
   row-missing w = miss-none p l 0 (first-miss p l (sym e ∙ w))
 
-  pub not-new : (i : ℕ) → f ≡ At i → false ≡ not (anyOf p l)
-  not-new i w = sym (rw (row-there i w))
-
-  pub is-new : f ≡ Nothing → true ≡ not (anyOf p l)
-  is-new w = sym (rw (row-missing w))
-
 -- what was said of the n bytes that were lent is said of the text
 module _ (t : Text) (n : ℕ) (e : n ≡ length (textBytes t)) where
   pub anew : (r : Text) → length (t .bytes) ≡ pathLimit → r ≡ toText (take pathLimit (take n (t .bytes))) → r ≡ toText (textBytes t)
@@ -67,8 +61,6 @@ module _ (t : Text) (n : ℕ) (e : n ≡ length (textBytes t)) where
 
     pub put-missing : f ≡ Nothing → false ≡ anyOf (isPut (textBytes t)) puts
     put-missing w = sym (row-missing (isPut (textBytes t)) puts f put-part w)
-
-pub ruleset news = (is-new, not-new)
 
 pub ruleset lens = (len-within, len-whole, needs)
 

@@ -14,7 +14,7 @@ use text::PATH_LIMIT;
 use text::Text;
 
 // How many bytes the text has: at most as many as its array.
-fn text_len(t: Text) -> usize
+pub(crate) fn text_len(t: Text) -> usize
     ensures { λ r. ⌜ r ≡ length (textBytes t) ⌝ }
 {
     if t.len < PATH_LIMIT {

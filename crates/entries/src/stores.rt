@@ -8,9 +8,11 @@ ghost use Rattle.rules.specs.Commit.{isReplaced, isNewPath, entryFor, storeAll}
 ghost use Rattle.entries.specs.Stores.{rowFor};
 use super::paths::entry_at;
 use super::paths::is_staged;
+use super::paths::text_len;
 use super::paths::write_anew;
 use lists::Found;
 use rows::free_entry;
+use rows::is_entry;
 use rows::is_number;
 use rows::put_count;
 use rules::Entry;
@@ -60,18 +62,8 @@ pub fn count_used(entries: [Entry; 64]) -> usize
     used
 }
 
-// Whether the put's path is new to the volume.
-fn is_new_path(entries: [Entry; 64], n: VolumeNo, p: Put) -> bool
-    ensures { λ r. ⌜ r ≡ isNewPath n entries p ⌝ }
-{
-    let path = p.path;
-    let Found::At(_) = entry_at(entries, n, path) else {
-        return true;
-    };
-    false
-}
-
-// How many of the first `count` puts have a path that is new to the volume.
+// How many of the first `count` puts have a path that is new to the volume. The entries are searched here and by no function of its own,
+// which would copy them for each put.
 pub fn count_new(entries: [Entry; 64], n: VolumeNo, puts: [Put; 8], count: usize) -> usize
     ensures { λ r. ⌜ r ≡ countIf (isNewPath n entries) (take count puts) ⌝ }
 {
@@ -80,7 +72,21 @@ pub fn count_new(entries: [Entry; 64], n: VolumeNo, puts: [Put; 8], count: usize
     let mut i: usize = 0;
     while i < m {
         let p = puts[i];
-        if is_new_path(entries, n, p) {
+        let path = p.path;
+        let k = text_len(path);
+        let b = path.bytes;
+        let mut there = false;
+        let mut j: usize = 0;
+        while j < 64 {
+            if entries[j].volume.0 == n.0 {
+                let e = entries[j];
+                if is_entry(e, n, &b[..k]) {
+                    there = true;
+                }
+            }
+            j += 1;
+        }
+        if !there {
             new += 1;
         }
         i += 1;

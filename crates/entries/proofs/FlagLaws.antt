@@ -1,0 +1,67 @@
+-- A loop over all rows that keeps whether one of them passed: its invariant at row i of n, and the laws of its start, its step and its end. For a
+-- put, whether its path is new. Assumes nothing.
+use mathlib.Core.Path.{_≡_, refl, sym, _∙_}
+use mathlib.Core.Bool.{Bool, true, false, not, _||_, or-false}
+use mathlib.Core.List.{List}
+use Prim.Native.Nat.{ℕ, _+_, _<_, _≤_}
+use native.Mathlib.Omega.{arith}
+use borrow.Author.Tests.{not-true, not-false}
+use lib.ListN.{length, drop, getD, take}
+use Rattle.lists.specs.Lists.{anyOf}
+use Rattle.lists.specs.TestLaws.{any-here, any-on, any-end}
+use Rattle.lists.specs.AnswerLaws.{part-holds}
+use Rattle.text.specs.Text.{textBytes}
+use Rattle.text.specs.TextLaws.{part-bytes}
+use Rattle.rules.specs.declared.VolumeNo.{VolumeNo}
+use Rattle.rules.specs.declared.Entry.{Entry}
+use Rattle.rules.specs.declared.Put.{Put}
+use Rattle.rules.specs.Tables.{isEntry}
+use Rattle.rules.specs.Commit.{isNewPath}
+use Rattle.rows.specs.Blank.{blankEntry, blankPut}
+use Rattle.rows.specs.EntryLaws.{not-entry}
+use Rattle.entries.proofs.CountLaws.{CountLoop, count-adds-part, count-skips-part}
+
+-- a row before i passed, or one from i on does: what all rows come to
+pub record FlagLoop {A : Type 0} (p : A → Bool) (l : List A) (n i : ℕ) (b : Bool) : Type 0 where
+  pub size : length l ≡ n
+  pub rest : (b || anyOf p (drop i l)) ≡ anyOf p l
+
+module _ {A : Type 0} (p : A → Bool) (l : List A) (n : ℕ) where
+  pub flag-start : length l ≡ n → FlagLoop p l n 0 false
+  flag-start e = record { size = e; rest = refl }
+
+  module _ (i : ℕ) (b : Bool) where
+    pub flag-end : n ≤ i → FlagLoop p l n i b → b ≡ anyOf p l
+    flag-end k h = sym (or-false b) ∙ rw (any-end p l i (omega (arith, h .size))) at (h .rest)
+
+-- the entries of a volume at a path: next says whether one was found up to row i
+module _ (v : VolumeNo) (path : List ℕ) (rows : List Entry) (i : ℕ) (b next : Bool) where
+  pub flag-set : (r : Bool) → next ≡ true → r ≡ true → r ≡ isEntry v path (getD rows i blankEntry) → i < 64 → FlagLoop (isEntry v path) rows 64 i b
+      → FlagLoop (isEntry v path) rows 64 (i + 1) next
+  flag-set r g t e k h =
+      let here = any-here (isEntry v path) rows blankEntry i (omega (arith, h .size)) e t in
+      rw g (record { size = h .size; rest = part-holds b (anyOf (isEntry v path) (drop i rows)) here ∙ h .rest })
+
+  pub flag-kept : (r : Bool) → next ≡ b → r ≡ false → r ≡ isEntry v path (getD rows i blankEntry) → i < 64 → FlagLoop (isEntry v path) rows 64 i b
+      → FlagLoop (isEntry v path) rows 64 (i + 1) next
+  flag-kept r g t e k h =
+      rw g (record { size = h .size; rest = rw (any-on (isEntry v path) rows blankEntry i (omega (arith, h .size)) e t) at (h .rest) })
+
+  pub flag-past : next ≡ b → (getD rows i blankEntry .volume .0 ≡ v .0 → ⊥) → i < 64 → FlagLoop (isEntry v path) rows 64 i b
+      → FlagLoop (isEntry v path) rows 64 (i + 1) next
+  flag-past g w = flag-kept false g refl (sym (not-entry v path (getD rows i blankEntry) w))
+
+-- the count of the new paths after put i, of whose path len bytes were lent: b says whether an entry has it
+module _ (v : VolumeNo) (es : List Entry) (puts : List Put) (count m i sum s len j : ℕ) (b : Bool)
+    (size : len ≡ length (textBytes (getD puts i blankPut .path))) (k : 64 ≤ j)
+    (h : FlagLoop (isEntry v (take len (getD puts i blankPut .path .bytes))) es 64 j b) where
+  new-path : not b ≡ isNewPath v es (getD puts i blankPut)
+  unfolding isNewPath
+  new-path = rw (← part-bytes (getD puts i blankPut .path) len size, ← flag-end _ es 64 j b k h)
+
+  module _ (low : i < m) (c : CountLoop (isNewPath v es) (take count puts) m i sum) where
+    pub new-counted : not b ≡ true → s ≡ sum + 1 → CountLoop (isNewPath v es) (take count puts) m (i + 1) s
+    new-counted t q = count-adds-part blankPut (isNewPath v es) puts count m i sum (not b) s c low new-path t q
+
+    pub known-skipped : not b ≡ false → s ≡ sum → CountLoop (isNewPath v es) (take count puts) m (i + 1) s
+    known-skipped t q = count-skips-part blankPut (isNewPath v es) puts count m i sum (not b) s c low new-path t q
