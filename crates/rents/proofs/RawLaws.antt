@@ -1,19 +1,15 @@
 -- The loop that adds up a volume's bytes, in a sum that stays at 2^64 - 1 where it would pass it. Assumes nothing.
-use mathlib.Core.Path.{_≡_, refl, _∙_}
+use mathlib.Core.Path.{_≡_, refl}
 use mathlib.Core.Bool.{Bool, true, false, cond}
-use mathlib.Core.List.{List, [], _∷_, map}
+use mathlib.Core.List.{List, [], _∷_}
 use Prim.Native.Nat.{ℕ, _+_, _<_, _≤_, min}
 use native.Mathlib.Numerals.{add-one}
 use native.Mathlib.Omega.{arith}
 use borrow.Author.Needs.{needs}
 use lib.ListN.{length, drop, getD, drop-of-length-le}
 use lib.Seq.{drop-cons}
-use Rattle.rules.specs.declared.VolumeNo.{VolumeNo}
-use Rattle.rules.specs.declared.Entry.{Entry}
 use Rattle.rules.specs.Tables.{numbered}
-use Rattle.rules.specs.Rent.{sizeOf}
-use Rattle.rents.specs.Within.{mostRaw, rawIn, entryVolume, sizesAt}
-use Rattle.rents.specs.WithinLaws.{raw-listed}
+use Rattle.rents.specs.Within.{mostRaw, sizesAt}
 
 -- no sizes, no sum
 none-at : (n : ℕ) (ms : List ℕ) → sizesAt n ms [] ≡ 0
@@ -55,8 +51,3 @@ module _ (n : ℕ) (ms sizes : List ℕ) where
       raw-skips t f = record { few = omega (arith, h .few); rest = omega (arith, h .rest, rw t at first) }
 
 pub ruleset raws = (raw-adds, raw-skips, raw-end, raw-short, raw-start, needs)
-
--- the sum from the lists of the entries' numbers and sizes
-pub raw-of : (n : VolumeNo) (es : List Entry) (ms sizes : List ℕ) (r : ℕ) → ms ≡ map entryVolume es → sizes ≡ map sizeOf es
-    → r ≡ min (sizesAt (n .0) ms sizes) mostRaw → r ≡ rawIn n es
-raw-of n es ms sizes r e f q = q ∙ rw (e, f) (raw-listed n es)

@@ -3,11 +3,9 @@ mod price;
 mod raw;
 
 pub use price::rent_of;
-pub use price::volume_rent;
 pub use raw::entry_sizes;
 pub use raw::entry_volumes;
 pub use raw::raw_from;
-pub use raw::raw_in;
 
 // What a rent comes to: coins, or that K, M or the raw bytes are past the limits of the desk, and no rent is worked out.
 pub enum Rent {

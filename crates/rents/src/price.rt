@@ -6,12 +6,9 @@ ghost use Prim.Native.Nat.{_≤_};
 ghost use Rattle.rules.specs.Relays.{ceilDiv};
 ghost use Rattle.rules.specs.Rent.{effective, rentOf};
 ghost use Rattle.rules.specs.Sound.{shardsFit};
-ghost use Rattle.rents.specs.Within.{rawLimit, mostEffective, rentWithin, volumeRent};
+ghost use Rattle.rents.specs.Within.{rawLimit, mostEffective, rentWithin};
 use super::Rent;
-use super::raw::raw_in;
 use rows::shards_fit;
-use rules::Tables;
-use rules::Volume;
 
 // The quotient rounded up; 0 where it is divided by 0.
 fn ceil_div(n: u64, d: u64) -> u64
@@ -56,13 +53,4 @@ pub fn rent_of(rate: u16, k: u8, m: u8, raw: u64) -> Rent
     }
     let size = effective_size(k, m, raw);
     Rent::Coins(coins_for(rate, size))
-}
-
-// One epoch's rent of a volume as it stands.
-pub fn volume_rent(t: Tables, v: Volume) -> Rent
-    ensures { λ r. ⌜ r ≡ volumeRent t v ⌝ }
-{
-    let entries = t.entries;
-    let n = v.no;
-    rent_of(t.rate, v.k, v.m, raw_in(entries, n))
 }

@@ -2,12 +2,10 @@
 ghost use mathlib.Core.Path.{_≡_};
 ghost use mathlib.Core.List.{map};
 ghost use Prim.Native.Nat.{_+_, _-_, _^_, min};
-ghost use Rattle.lists.specs.Lists.{total};
-ghost use Rattle.rules.specs.Rent.{sizeOf, sizesIn};
+ghost use Rattle.rules.specs.Rent.{sizeOf};
 ghost use Rattle.rents.specs.Within.{entryVolume, sizesAt};
 use rows::is_number;
 use rules::Entry;
-use rules::VolumeNo;
 
 // A sum that stays at 2^64 - 1 where it would pass it.
 fn add_up(sum: u64, size: u64) -> u64
@@ -61,13 +59,4 @@ pub fn raw_from(numbers: &[u32], sizes: &[u64], n: u32) -> u64
         i += 1;
     }
     sum
-}
-
-// The sizes of a volume's entries added up, in a sum that stays at 2^64 - 1.
-pub fn raw_in(entries: [Entry; 64], n: VolumeNo) -> u64
-    ensures { λ r. ⌜ r ≡ min (total (sizesIn n entries)) (2 ^ 64 - 1) ⌝ }
-{
-    let numbers = entry_volumes(entries);
-    let sizes = entry_sizes(entries);
-    raw_from(&numbers, &sizes, n.0)
 }

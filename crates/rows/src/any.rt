@@ -2,41 +2,11 @@
 ghost use mathlib.Core.Path.{_≡_};
 ghost use lib.ListN.{drop};
 ghost use Rattle.lists.specs.Lists.{anyOf};
-ghost use Rattle.rules.specs.Tables.{isVolume, isToken, isRelay};
+ghost use Rattle.rules.specs.Tables.{isRelay};
 ghost use Rattle.rules.specs.Sound.{isGiven};
 use super::find::is_number;
 use rules::Relay;
 use rules::RelayNo;
-use rules::Token;
-use rules::TokenNo;
-use rules::Volume;
-use rules::VolumeNo;
-
-pub fn any_volume(rows: [Volume; 8], n: VolumeNo, start: usize) -> bool
-    ensures { λ r. ⌜ r ≡ anyOf (isVolume n) (drop start rows) ⌝ }
-{
-    let mut i = start;
-    while i < 8 {
-        if is_number(n.0, rows[i].no.0) {
-            return true;
-        }
-        i += 1;
-    }
-    false
-}
-
-pub fn any_token(rows: [Token; 32], n: TokenNo, start: usize) -> bool
-    ensures { λ r. ⌜ r ≡ anyOf (isToken n) (drop start rows) ⌝ }
-{
-    let mut i = start;
-    while i < 32 {
-        if is_number(n.0, rows[i].no.0) {
-            return true;
-        }
-        i += 1;
-    }
-    false
-}
 
 pub fn any_relay(rows: [Relay; 32], n: RelayNo, start: usize) -> bool
     ensures { λ r. ⌜ r ≡ anyOf (isRelay n) (drop start rows) ⌝ }

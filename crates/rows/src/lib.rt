@@ -8,8 +8,6 @@ mod shards;
 mod texts;
 
 pub use any::any_relay;
-pub use any::any_token;
-pub use any::any_volume;
 pub use any::is_given;
 pub use chain::depth_in;
 pub use chain::depth_of;
