@@ -18,9 +18,9 @@ use Rattle.rules.specs.Fresh.{freshVolume, freshEntry, freshToken, freshRelay}
 use Rattle.rules.specs.Tables.{cleared, withClock, withVolumes, withRelays}
 use Rattle.rules.specs.Relays.{isDead, lightened}
 use Rattle.rules.specs.Rent.{rentNow, epochEnds}
-use Rattle.rules.specs.Outcome.{success, refused, accepted}
+use Rattle.rules.specs.Outcome.{success, refused}
 use Rattle.rules.specs.VolumeCalls.{dropEntries}
-use Rattle.rules.specs.Advance.{isDue, entryOfOne, relaysLeave, settled, settle, atEpoch, collect, badBlock, advanced}
+use Rattle.rules.specs.Advance.{isDue, entryOfOne, relaysLeave, settled, settle, atEpoch, collect, badBlock}
 use Rattle.entries.specs.Marks.{marked, clearedBy}
 use Rattle.entries.specs.MarkLaws.{marked-keep, cleared-by}
 use Rattle.epochs.specs.declared.Settled.{Settled}
@@ -28,8 +28,9 @@ use Rattle.epochs.specs.declared.PassOutcome.{PassOutcome}
 use Rattle.epochs.specs.declared.CollectOutcome.{CollectOutcome}
 use Rattle.epochs.specs.Parts.{onAdvance, onPass, onCollect, collected}
 use Rattle.epochs.specs.Gone.{dueNumber, entryGone, tokenGone}
-use Rattle.epochs.specs.GoneLaws.{marks-gone, tokens-gone, none-due}
-use Rattle.epochs.specs.Within.{canSettleAll, settledRows, settledAt, canAdvance, advanceWithin}
+use Rattle.epochs.specs.GoneLaws.{marks-gone, tokens-gone}
+use Rattle.epochs.specs.Within.{canSettleAll, settledRows, settledAt, canAdvance, advanceWithin, passWithin, dueWithin}
+use Rattle.epochs.specs.PassLaws.{advance-parts}
 
 -- the volumes vs and the relays rs are those that the collection starts from
 module _ (t : Tables) (block : ℕ) (vs : List Volume) (rs : List Relay) where
@@ -43,12 +44,6 @@ module _ (t : Tables) (block : ℕ) (vs : List Volume) (rs : List Relay) where
       let p = entryOfOne (keep (isDue block) vs) in
       let q : ms ≡ map p (t .entries) = m ∙ rw g (marks-gone block vs (t .entries)) in
       rw (v, k, g, tokens-gone block vs (t .tokens), l, r, q, marked-keep p (t .entries), cleared-by p freshEntry (t .entries))
-
--- the collection, or none where no volume is due
-when-due : (block : ℕ) (u : Tables) (due : Bool) → due ≡ anyOf (isDue block) (u .volumes) → accepted block (collect (isDue block) u) ≡ collected due block (accepted block u)
-unfolding collected
-when-due block u true e = refl
-when-due block u false e = ap (accepted block) (none-due (isDue block) u (sym e))
 
 -- the volumes at the block: n is how many epochs end
 module _ (t : Tables) (block n : ℕ) (e : n ≡ epochEnds (t .clock) block) where
@@ -76,10 +71,15 @@ rows-at t block false w = refl
 
 -- the first part of an advance: b is what the code said of the block
 module _ (t : Tables) (block : ℕ) (b : Bool) (e : b ≡ badBlock (t .clock) block) where
-  -- o is what was kept
-  pub bad-block-is : (o : PassOutcome) → b ≡ true → onPass t o ≡ refused t CLOCK → o .due ≡ false → advanceWithin block t ≡ collected (o .due) block (onPass t o)
-  unfolding advanceWithin collected
-  bad-block-is o f q d = rw (sym e ∙ f, d) (sym q)
+  -- o is what a refusal gave
+  module _ (o : PassOutcome) (f : b ≡ true) where
+    pub bad-outcome : onPass t o ≡ refused t CLOCK → onPass t o ≡ passWithin block t
+    unfolding passWithin
+    bad-outcome q = rw (sym e ∙ f) q
+
+    pub bad-due : o .due ≡ false → o .due ≡ dueWithin block t
+    unfolding dueWithin
+    bad-due d = rw (sym e ∙ f) d
 
   -- y is the volumes at the block
   module _ (y : Settled) (f : b ≡ false) (s : y ≡ settledAt block t) where
@@ -87,25 +87,42 @@ module _ (t : Tables) (block : ℕ) (b : Bool) (e : b ≡ badBlock (t .clock) bl
     unfolding settledAt canAdvance
     fits-all = rw s (fits-at t (leb 1 (epochEnds (t .clock) block)))
 
-    pub not-settled : (o : PassOutcome) → not (y .fits) ≡ true → onPass t o ≡ refused t BAD → o .due ≡ false
-        → advanceWithin block t ≡ collected (o .due) block (onPass t o)
-    unfolding advanceWithin collected
-    not-settled o w q d = rw (sym e ∙ f, sym fits-all ∙ not-true (y .fits) w, d) (sym q)
+    module _ (o : PassOutcome) (w : not (y .fits) ≡ true) where
+      cannot : canAdvance block t ≡ false
+      cannot = sym fits-all ∙ not-true (y .fits) w
 
-    pub goes-on : (rs : List Relay) (due : Bool) (answer : Answer) → not (y .fits) ≡ false → rs ≡ cleared (isDead block) freshRelay (t .relays)
-        → due ≡ anyOf (isDue block) (y .rows) → answer ≡ success block
-        → advanceWithin block t ≡ collected due block (onPass t (record { answer = answer; clock = block; volumes = y .rows; relays = rs; due = due }))
-    unfolding advanceWithin advanced settledAt canAdvance relaysLeave
-    goes-on rs due answer w r d a =
-        let c : canAdvance block t ≡ true = sym fits-all ∙ not-false (y .fits) w in
-        let u = withVolumes (relaysLeave (withClock t block)) (y .rows) in
-        let q : atEpoch (leb 1 (epochEnds (t .clock) block)) (relaysLeave (withClock t block)) ≡ u = rw s (rows-at t block (leb 1 (epochEnds (t .clock) block)) c) in
-        rw (sym e ∙ f, c, q, r, a) (when-due block u due d)
+      pub unsettled-outcome : onPass t o ≡ refused t BAD → onPass t o ≡ passWithin block t
+      unfolding passWithin
+      unsettled-outcome q = rw (sym e ∙ f, cannot) q
 
-pub ruleset passes = (goes-on, not-settled, bad-block-is, needs)
+      pub unsettled-due : o .due ≡ false → o .due ≡ dueWithin block t
+      unfolding dueWithin
+      unsettled-due d = rw (sym e ∙ f, cannot) d
+
+    module _ (w : not (y .fits) ≡ false) where
+      can : canAdvance block t ≡ true
+      can = sym fits-all ∙ not-false (y .fits) w
+
+      before : atEpoch (leb 1 (epochEnds (t .clock) block)) (relaysLeave (withClock t block)) ≡ withVolumes (relaysLeave (withClock t block)) (y .rows)
+      unfolding settledAt canAdvance
+      before = rw s (rows-at t block (leb 1 (epochEnds (t .clock) block)) can)
+
+      pub passed-outcome : (rs : List Relay) (due : Bool) (answer : Answer) → rs ≡ cleared (isDead block) freshRelay (t .relays) → answer ≡ success block
+          → onPass t (record { answer = answer; clock = block; volumes = y .rows; relays = rs; due = due }) ≡ passWithin block t
+      unfolding passWithin relaysLeave
+      passed-outcome rs due answer r a = rw (sym e ∙ f, can, before, r, a)
+
+      pub passed-due : (due : Bool) → due ≡ anyOf (isDue block) (y .rows) → due ≡ dueWithin block t
+      unfolding passWithin dueWithin relaysLeave
+      passed-due due d = rw (sym e ∙ f, can, before) d
+
+pub ruleset passes = (passed-outcome, passed-due, unsettled-outcome, unsettled-due, bad-outcome, bad-due, needs)
 
 -- a whole advance: o is what its first part left, and y what the collection left
-module _ (t : Tables) (block : ℕ) (o : PassOutcome) (q : advanceWithin block t ≡ collected (o .due) block (onPass t o)) where
+module _ (t : Tables) (block : ℕ) (o : PassOutcome) (q₁ : onPass t o ≡ passWithin block t) (q₂ : o .due ≡ dueWithin block t) where
+  q : advanceWithin block t ≡ collected (o .due) block (onPass t o)
+  q = advance-parts t block ∙ rw (q₁, q₂)
+
   pub none-collected : not (o .due) ≡ true
       → onAdvance t (record { answer = o .answer; clock = o .clock; volumes = o .volumes; entries = t .entries; tokens = t .tokens; relays = o .relays }) ≡ advanceWithin block t
   unfolding collected

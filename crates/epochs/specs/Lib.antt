@@ -3,3 +3,4 @@ pub mod Gone
 pub mod GoneLaws
 pub mod Within
 pub mod WithinLaws
+pub mod PassLaws

@@ -24,7 +24,7 @@ onPass t o = record { answer = o .answer; tables = withVolumes (withRelays (with
 abbrev pub onCollect : Tables → CollectOutcome → Tables
 onCollect t o = withVolumes (withTokens (withRelays (withEntries t (o .entries)) (o .relays)) (o .tokens)) (o .volumes)
 
--- an outcome after the collection, where some volume is due
+-- an outcome after the collection where the first argument is true, and else as it is
 unfoldable pub collected : Bool → ℕ → TablesOutcome → TablesOutcome
 collected true block o = record { answer = o .answer; tables = collect (isDue block) (o .tables) }
 collected false block o = o

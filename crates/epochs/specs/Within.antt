@@ -4,15 +4,15 @@ use mathlib.Core.Bool.{Bool, true, false, _&&_, _||_, cond, not}
 use mathlib.Core.List.{map}
 use Prim.Native.Nat.{ℕ, _-_, _^_}
 use lib.Dec.{leb, ltb}
-use Rattle.lists.specs.Lists.{allOf}
+use Rattle.lists.specs.Lists.{allOf, anyOf}
 use Rattle.rules.specs.declared.Volume.{Volume}
 use Rattle.rules.specs.declared.Tables.{Tables}
 use Rattle.rules.specs.declared.TablesOutcome.{TablesOutcome}
 use Rattle.rules.specs.Numbers.{BAD, CLOCK}
-use Rattle.rules.specs.Tables.{usedVolume}
+use Rattle.rules.specs.Tables.{usedVolume, withClock}
 use Rattle.rules.specs.Rent.{epochEnds}
 use Rattle.rules.specs.Outcome.{refused, accepted}
-use Rattle.rules.specs.Advance.{settled, badBlock, advanced}
+use Rattle.rules.specs.Advance.{settled, badBlock, advanced, isDue, relaysLeave, atEpoch}
 use Rattle.rents.specs.declared.Rent.{Rent}
 use Rattle.rents.specs.declared.Rent.the-variants.{Coins, PastLimits}
 use Rattle.rents.specs.Within.{volumeRent}
@@ -54,3 +54,13 @@ unfoldable pub advanceWithin : ℕ → Tables → TablesOutcome
 advanceWithin block t =
     cond (badBlock (t .clock) block) (refused t CLOCK)
     (cond (canAdvance block t) (accepted block (advanced t block)) (refused t BAD))
+
+-- the same before volumes are collected: the clock at the block, the relays that stay, and the volumes after their rents
+unfoldable pub passWithin : ℕ → Tables → TablesOutcome
+passWithin block t =
+    cond (badBlock (t .clock) block) (refused t CLOCK)
+    (cond (canAdvance block t) (accepted block (atEpoch (leb 1 (epochEnds (t .clock) block)) (relaysLeave (withClock t block)))) (refused t BAD))
+
+-- whether volumes are collected after it: the advance is made, and one of them is due
+unfoldable pub dueWithin : ℕ → Tables → Bool
+dueWithin block t = not (badBlock (t .clock) block) && (canAdvance block t && anyOf (isDue block) (passWithin block t .tables .volumes))

@@ -2,8 +2,8 @@
 ghost use mathlib.Core.Path.{_≡_};
 ghost use mathlib.Core.Bool.{false};
 ghost use Rattle.rules.specs.Outcome.{refused};
-ghost use Rattle.epochs.specs.Parts.{onAdvance, onPass, collected};
-ghost use Rattle.epochs.specs.Within.{settledAt, advanceWithin};
+ghost use Rattle.epochs.specs.Parts.{onAdvance, onPass};
+ghost use Rattle.epochs.specs.Within.{settledAt, advanceWithin, passWithin, dueWithin};
 use super::AdvanceOutcome;
 use super::PassOutcome;
 use super::Settled;
@@ -18,7 +18,7 @@ use rules::numbers::BAD;
 use rules::numbers::CLOCK;
 
 // A refusal: the parts are as they came, and no volume is collected.
-fn kept(t: Tables, n: u32) -> PassOutcome
+fn refuse(t: Tables, n: u32) -> PassOutcome
     ensures { λ r. ⌜ (onPass t r ≡ refused t n) × (r .due ≡ false) ⌝ }
 {
     let answer = rules::refusal(n);
@@ -44,16 +44,16 @@ fn settled(t: Tables, block: u64) -> Settled
     settle_all(t)
 }
 
-// The clock goes on to the block, relays leave and rents are paid.
+// The clock goes on to the block, relays leave and rents are paid; `due` says whether volumes are collected then.
 pub fn pass_on(t: Tables, block: u64) -> PassOutcome
-    ensures { λ r. ⌜ advanceWithin block t ≡ collected (r .due) block (onPass t r) ⌝ }
+    ensures { λ r. ⌜ (onPass t r ≡ passWithin block t) × (r .due ≡ dueWithin block t) ⌝ }
 {
     if bad_block(t.clock, block) {
-        return kept(t, CLOCK);
+        return refuse(t, CLOCK);
     }
     let after = settled(t, block);
     if !after.fits {
-        return kept(t, BAD);
+        return refuse(t, BAD);
     }
     let volumes = after.rows;
     let before = t.relays;

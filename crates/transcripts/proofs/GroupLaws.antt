@@ -25,7 +25,8 @@ use Rattle.rules.specs.Laws.StaysSound.{DeskInvariant}
 use Rattle.rules.specs.Calls.{Ask, askRule, Work, commits, workRule, Call, ask, onSlot, withSlot, rule}
 use Rattle.rules.specs.Advance.{isDue, collect}
 use Rattle.epochs.specs.Parts.{collected}
-use Rattle.epochs.specs.Within.{advanceWithin}
+use Rattle.epochs.specs.Within.{advanceWithin, passWithin, dueWithin}
+use Rattle.epochs.specs.PassLaws.{advance-parts}
 use Rattle.epochs.specs.WithinLaws.{advance-sound}
 use Rattle.commits.specs.Within.{commitWithin}
 use Rattle.commits.specs.WithinLaws.{commit-sound}
@@ -194,10 +195,15 @@ module _ (j : List ℕ) (p : ℕ) (y : Item) (ey : StandsAt j p y) where
       remove-said f e ea = said (x .tables) slots (by-ask (rw e) x (removeAsk r l) (rw e) (f .same) ea)
 
       -- x is what an advance left before the collection, which follows where due is true
-      module _ (i : DeskInvariant (deskOf t slots)) (due : Bool) (f : advanceWithin (r .amount) t ≡ collected due (r .amount) x) (e : g ≡ group.Advance) (ea : a ≡ x .answer) where
+      module _ (i : DeskInvariant (deskOf t slots)) (due : Bool) (f : x ≡ passWithin (r .amount) t) (fd : due ≡ dueWithin (r .amount) t) (e : g ≡ group.Advance)
+          (ea : a ≡ x .answer) where
+        in-parts : advanceWithin (r .amount) t ≡ collected due (r .amount) x
+        in-parts = advance-parts t (r .amount) ∙ rw (f, fd)
+
         advances : Carried g r l t slots a (collected due (r .amount) x .tables) slots
         advances =
-            by-ask (rw e) (collected due (r .amount) x) (Ask.advance (r .amount)) (rw e) (sym f ∙ advance-is (deskOf t slots) i (r .amount)) (ea ∙ sym (same-answer (r .amount) due x))
+            by-ask (rw e) (collected due (r .amount) x) (Ask.advance (r .amount)) (rw e) (sym in-parts ∙ advance-is (deskOf t slots) i (r .amount))
+            (ea ∙ sym (same-answer (r .amount) due x))
 
         pub advance-carried : due ≡ false → (t′ : Tables) (slots′ : List Session) → t′ ≡ x .tables → slots′ ≡ slots → Carried g r l t slots a t′ slots′
         unfolding collected
