@@ -59,7 +59,7 @@ fn any_mark(marks: &[bool]) -> bool
     false
 }
 
-// The relays after each marked entry gave its room and held shards back. Where none is marked they go back at once.
+// The relays after each marked entry gave its room and held shards back. Where no mark is set they are returned as they came.
 pub fn give_back(
     volumes: [Volume; 8],
     entries: [Entry; 64],

@@ -83,7 +83,7 @@ pub(crate) fn collect_due(
     }
 }
 
-// The volumes that are due at the block go.
+// The volumes that are due at the block go, with their entries and tokens, and the room is given back.
 pub fn collect_on(t: Tables, block: u64) -> CollectOutcome
     ensures { λ r. ⌜ onCollect t r ≡ collect (isDue block) t ⌝ }
 {

@@ -1,6 +1,6 @@
 // The work of advance: the clock goes on, relays leave, rents are paid at an epoch end, and volumes are collected. It reads the
-// tables and gives back the parts that it changes, with its answer: specs/Parts.antt says what that makes of the whole. It answers
-// for every input.
+// tables and gives back the parts that it changes, with its answer: specs/Parts.antt says what that makes of the whole. `advance_on` does
+// all of it, and `pass_on` and `collect_on` are its two parts. It answers for every input.
 mod advance;
 mod clock;
 mod collect;

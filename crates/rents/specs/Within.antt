@@ -39,7 +39,7 @@ rawIn n es = min (total (sizesIn n es)) mostRaw
 abbrev pub entryVolume : Entry → ℕ
 entryVolume e = e .volume .0
 
--- the sizes at the places where the number is n, added up; the shorter list ends it
+-- the sizes at the places where the number is n, added up; nothing where n is 0; the shorter list ends it
 unfoldable pub sizesAt : ℕ → List ℕ → List ℕ → ℕ
 sizesAt n [] sizes = 0
 sizesAt n (m ∷ ms) [] = 0

@@ -44,7 +44,7 @@ pub fn token_parents(rows: [Token; 32]) -> [u64; 32]
     parents
 }
 
-// A row's number is n, and n is a number.
+// The same as `is_number`, of numbers in 64 bits.
 pub fn is_wide_number(n: u64, row: u64) -> bool
     ensures { λ r. ⌜ r ≡ numbered n row ⌝ }
 {

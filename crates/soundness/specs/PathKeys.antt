@@ -1,5 +1,5 @@
--- A number for each entry, which entries of the same volume and path share, and one for each put. It only saves work: the test of the desk compares two paths
--- where their numbers are the same. Assumes nothing.
+-- A number for each entry, which entries of the same volume and path share, and one for each staged put, which puts of the same path share. It only
+-- saves work: the test of the desk compares two paths where their numbers are the same. Assumes nothing.
 use mathlib.Core.Bool.{cond}
 use mathlib.Core.List.{List, [], _∷_}
 use Prim.Native.Nat.{ℕ, _+_}
@@ -17,6 +17,6 @@ keyOf n (b ∷ bs) = n + keyOf (n + b) bs
 unfoldable pub pathKey : Entry → ℕ
 pathKey e = cond (freeEntry e) 0 (keyOf (e .volume .0) (textBytes (e .path)))
 
--- of a staged put, whose session has one volume
+-- the same of a staged put: the puts of a session are of one volume, and 1 stands in the place of its number
 abbrev pub putKey : Put → ℕ
 putKey p = keyOf 1 (textBytes (p .path))

@@ -20,6 +20,6 @@ sameNumber n m = eqb m n
 unfoldable pub placeNumbers : Placement → List ℕ
 placeNumbers p = map placeNumber (placedOn p) ++ replicate (24 - length (placedOn p)) 0
 
--- the same of an entry: zeros of a free row
+-- the same of an entry: 24 zeros where the row is free
 unfoldable pub placesOf : Entry → List ℕ
 placesOf e = cond (freeEntry e) (replicate 24 0) (placeNumbers (e .placement))

@@ -25,8 +25,8 @@ use rules::fresh_token;
 use rules::numbers::NO_TOKEN;
 use rules::numbers::NOT_OWNER;
 
-// The token n is the token `no` or one of its ancestors, which are followed up to a chain of 8. The lists are of the tokens' numbers and of their
-// parents' numbers.
+// The token n is the token `no` or one of its ancestors, which are followed up to a chain of 8. `parent` is the number of its
+// parent. The lists are of the tokens' numbers and of their parents' numbers.
 fn in_chain(numbers: &[u64; 32], parents: &[u64; 32], n: u64, no: u64, parent: u64) -> bool
     ensures { λ r. ⌜ r ≡ inChain (now (numbers .entry)) (now (parents .entry)) n no parent ⌝ }
 {
