@@ -26,7 +26,8 @@ use Rattle.rules.specs.Tables.{given, freeToken, numbered, isToken, withUsed}
 use Rattle.rules.specs.Laws.ApartLaws.{other-part}
 use Rattle.rules.specs.Commit.{charged}
 use Rattle.rows.specs.Blank.{blankToken}
-use Rattle.commits.specs.Charge.{tokenNumber, numbersOf}
+use Rattle.rows.specs.Links.{tokenNumber}
+use Rattle.commits.specs.Charge.{numbersOf}
 use Rattle.commits.specs.Within.{tokenWithin}
 
 module _ (limit a b : ℕ) where

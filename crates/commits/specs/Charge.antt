@@ -4,9 +4,7 @@ use Prim.Native.Nat.{ℕ}
 use lib.ListN.{replicate}
 use lib.Seq.{paste}
 use Rattle.rules.specs.declared.Token.{Token}
-
-abbrev pub tokenNumber : Token → ℕ
-tokenNumber k = k .no .0
+use Rattle.rows.specs.Links.{tokenNumber}
 
 -- those of the first k tokens, in 8 places, and zeros after them
 unfoldable pub numbersOf : List Token → ℕ → List ℕ

@@ -1,6 +1,6 @@
+pub mod FieldLaws
 pub mod FillLaws
 pub mod KeyLaws
-pub mod NextLaws
 pub mod NumberLaws
 pub mod PlaceLaws
 pub mod PutKeyLaws

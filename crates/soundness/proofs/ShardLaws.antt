@@ -35,7 +35,7 @@ use Rattle.rows.specs.ShardBytes.{shard-none, shard-some, bytes-none, bytes-at}
 use Rattle.soundness.specs.Numbers.{volumeNumber, volumeK}
 use Rattle.soundness.specs.Places.{sameNumber, placesOf}
 use Rattle.soundness.proofs.FillLaws.{fill-zero, fill-stored}
-use Rattle.soundness.proofs.NextLaws.{in-rows, field-at}
+use Rattle.soundness.proofs.FieldLaws.{in-rows, field-at}
 use Rattle.soundness.proofs.PlaceLaws.{place-among}
 use Rattle.rows.specs.Blank.{blankVolume, blankEntry}
 

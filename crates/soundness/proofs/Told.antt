@@ -31,7 +31,7 @@ use Rattle.rules.specs.declared.Status.{Status}
 use Rattle.rules.specs.declared.Tables.{Tables}
 use Rattle.rules.specs.Sound.{sameName, soundGrace, soundVolumes, soundEntries, soundVolume, soundToken, soundEntry, soundRelay, soundSession, soundIn, parentThere, soundPlacement, isGiven, volumeThere}
 use Rattle.soundness.specs.Numbers.{volumeNumber, volumeWidth}
-use Rattle.soundness.proofs.NextLaws.{in-rows, field-at}
+use Rattle.soundness.proofs.FieldLaws.{in-rows, field-at}
 
 module _ (t : Tables) (b : Bool) where
   pub volume-told : (v : Volume) → ((u : Tables) → u .«last_volume» ≡ t .«last_volume» → u .clock ≡ t .clock → b ≡ soundVolume u v) → b ≡ soundVolume t v

@@ -9,13 +9,13 @@ ghost use Rattle.rules.specs.declared.Tables.{Tables};
 ghost use Rattle.rules.specs.Tables.{isVolume};
 ghost use Rattle.rules.specs.Sound.{soundIn, soundEntry, soundEntries, sameEntry};
 use super::numbers::any_number;
-use super::numbers::next_number;
 use super::numbers::volume_numbers;
 use super::numbers::volume_widths;
 use super::numbers::wide;
 use super::path_keys::path_keys;
 use super::placements::sound_placement;
 use lists::Found;
+use rows::find_number;
 use rows::is_number;
 use rules::Entry;
 use rules::Placement;
@@ -29,7 +29,7 @@ fn sound_in(numbers: &[u64], widths: &[usize], n: VolumeNo, p: Placement, last: 
     requires { ⌜ length (now widths) ≡ length (now numbers) ⌝ }
     ensures { λ r. ⌜ ((t : Tables) → now (numbers .entry) ≡ map volumeNumber (t .volumes) → now (widths .entry) ≡ map volumeWidth (t .volumes) → t .«last_relay» ≡ last → r ≡ soundIn t p (find (isVolume n) (t .volumes))) ⌝ }
 {
-    let Found::At(i) = next_number(numbers, wide(n.0), 0) else {
+    let Found::At(i) = find_number(numbers, wide(n.0)) else {
         return false;
     };
     sound_placement(widths[i], p, last)

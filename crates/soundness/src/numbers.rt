@@ -3,22 +3,12 @@ ghost use mathlib.Core.Path.{_≡_};
 ghost use Prim.Native.Nat.{_+_};
 ghost use lib.ListN.{drop};
 ghost use mathlib.Core.List.{map};
-ghost use Rattle.lists.specs.Lists.{anyOf, firstAt, noClash};
+ghost use Rattle.lists.specs.Lists.{anyOf, noClash};
 ghost use Rattle.rules.specs.Tables.{given, numbered};
 ghost use Rattle.soundness.specs.Numbers.{volumeNumber, volumeWidth, volumeK, relayNumber};
-use lists::Found;
+use rows::is_wide_number;
 use rules::Relay;
 use rules::Volume;
-
-// A row's number is n, and n is a number.
-fn is_number(n: u64, row: u64) -> bool
-    ensures { λ r. ⌜ r ≡ numbered n row ⌝ }
-{
-    if n == 0 {
-        return false;
-    }
-    row == n
-}
 
 // Whether a number from an index on is n.
 pub(crate) fn number_again(numbers: &[u64], n: u64, start: usize) -> bool
@@ -26,26 +16,12 @@ pub(crate) fn number_again(numbers: &[u64], n: u64, start: usize) -> bool
 {
     let mut i = start;
     while i < numbers.len() {
-        if is_number(n, numbers[i]) {
+        if is_wide_number(n, numbers[i]) {
             return true;
         }
         i += 1;
     }
     false
-}
-
-// Where from an index on the number n stands first.
-pub(crate) fn next_number(numbers: &[u64], n: u64, start: usize) -> Found
-    ensures { λ r. ⌜ r ≡ firstAt (numbered n) start (drop start (now (numbers .entry))) ⌝ }
-{
-    let mut i = start;
-    while i < numbers.len() {
-        if is_number(n, numbers[i]) {
-            return Found::At(i);
-        }
-        i += 1;
-    }
-    Found::Nothing
 }
 
 fn is_some(n: u64) -> bool

@@ -7,12 +7,12 @@ ghost use Rattle.rules.specs.declared.Volume.{Volume};
 ghost use Rattle.rules.specs.Relays.{shardBytes};
 ghost use Rattle.soundness.specs.Numbers.{volumeNumber, volumeK};
 ghost use Rattle.soundness.specs.Places.{placesOf};
-use super::numbers::next_number;
 use super::numbers::volume_ks;
 use super::numbers::volume_numbers;
 use super::numbers::wide;
 use super::placements::place_numbers;
 use lists::Found;
+use rows::find_number;
 use rows::shard_size;
 use rules::Entry;
 use rules::Tables;
@@ -28,7 +28,7 @@ fn bytes_in(numbers: &[u64], ks: &[u8], n: u32, size: u64) -> u64
     requires { ⌜ length (now ks) ≡ length (now numbers) ⌝ }
     ensures { λ r. ⌜ ((vs : List Volume) (e : Entry) → now (numbers .entry) ≡ map volumeNumber vs → now (ks .entry) ≡ map volumeK vs → e .volume .0 ≡ n → e .size ≡ size → r ≡ shardBytes vs e) ⌝ }
 {
-    let Found::At(i) = next_number(numbers, wide(n), 0) else {
+    let Found::At(i) = find_number(numbers, wide(n)) else {
         return 0;
     };
     shard_size(size, ks[i])

@@ -4,7 +4,8 @@ use mathlib.Core.List.{map}
 use lib.ListN.{replicate}
 use Rattle.lists.specs.ByteLoopLaws.{FillLoop, fill-step-of}
 use Rattle.rows.specs.Blank.{blankToken}
-use Rattle.commits.specs.Charge.{tokenNumber, numbersOf}
+use Rattle.rows.specs.Links.{tokenNumber}
+use Rattle.commits.specs.Charge.{numbersOf}
 use Rattle.commits.proofs.QuotaLaws.{numbering}
 use Rattle.commits.proofs.charge.numbers_of.Statement.{statement}
 use Rattle.commits.proofs.charge.numbers_of.Tie as tie
