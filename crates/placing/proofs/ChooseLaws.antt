@@ -1,10 +1,12 @@
--- The numbers of the first rows as a placement, and the relays that are taken as the first of those in order. Assumes nothing.
+-- The numbers of the first keys as a placement, and the relays that are taken as the first of those in order. Assumes nothing.
 use mathlib.Core.Path.{_≡_, refl, sym, _∙_, ap}
 use mathlib.Core.List.{List, [], _∷_, _++_, map}
-use Prim.Native.Nat.{ℕ, zero, suc, _+_, _-_, _<_, _≤_, min}
+use Prim.Native.Nat.{ℕ, zero, suc, _+_, _-_, _%_, _<_, _≤_, min}
 use native.Mathlib.Nat.{zero-add}
 use native.Mathlib.Omega.{arith}
 use native.Mathlib.Decide.{decLe}
+use mir.Syntax.{w32}
+use mir.Val.{Fits}
 use borrow.Author.Needs.{needs}
 use lib.ListN.{length, take, drop, getD, set, replicate, length-map, length-take}
 use lib.Seq.{length-take-le, take-take, take-all}
@@ -16,7 +18,7 @@ use Rattle.rules.specs.declared.Relay.{Relay}
 use Rattle.rules.specs.Limits.{shardPlaces}
 use Rattle.rules.specs.Fresh.{noRelay}
 use Rattle.rules.specs.Relays.{numberOf, placementOf, eligibleSet, taken}
-use Rattle.placing.specs.Order.{rankedIn, takenIn}
+use Rattle.placing.specs.Order.{keyNumber, rankedIn, takenIn}
 use Rattle.placing.specs.OrderLaws.{taken-set}
 
 take-map : {A B : Type 0} (f : A → B) (n : ℕ) (l : List A) → take n (map f l) ≡ map f (take n l)
@@ -36,30 +38,37 @@ take-least a b n l e = go (decLe a b)
     go (yes h) = let f : n ≡ a = omega arith in rw f (sym (take-take a b l h))
     go (no h) = let f : n ≡ b = omega arith in rw f (sym (take-all a (take b l) (omega (arith, length-take b l))))
 
-pub numbers-start : (l : List Relay) (n : ℕ) → length l ≡ 32 → n ≤ shardPlaces
-    → FillLoop (replicate shardPlaces noRelay) 0 (map numberOf l) n 0 (replicate shardPlaces noRelay)
-numbers-start l n e h = fill-start _ 0 (map numberOf l) n (omega arith) (omega (arith, length-map l numberOf))
+pub numbers-start : (l : List ℕ) (n : ℕ) → length l ≡ 32 → n ≤ shardPlaces
+    → FillLoop (replicate shardPlaces noRelay) 0 (map keyNumber l) n 0 (replicate shardPlaces noRelay)
+numbers-start l n e h = fill-start _ 0 (map keyNumber l) n (omega arith) (omega (arith, length-map l keyNumber))
 
--- the numbers of the first n rows are stored
-module _ (l : List Relay) (n i : ℕ) (out : List RelayNo) (h : FillLoop (replicate shardPlaces noRelay) 0 (map numberOf l) n i out) where
-  pub numbers-end : n ≤ i → record { relays = out; len = n } ≡ placementOf (map numberOf (take n l))
+-- the numbers of the first n keys are stored
+module _ (l : List ℕ) (n i : ℕ) (out : List RelayNo) (h : FillLoop (replicate shardPlaces noRelay) 0 (map keyNumber l) n i out) where
+  pub numbers-end : n ≤ i → record { relays = out; len = n } ≡ placementOf (map keyNumber (take n l))
   numbers-end k =
-      let s : length (map numberOf (take n l)) ≡ n = length-map (take n l) numberOf ∙ length-take-le n l (omega (arith, h .source, length-map l numberOf)) in
-      let o : out ≡ map numberOf (take n l) ++ replicate (shardPlaces - n) noRelay =
-      fill-end _ 0 (map numberOf l) n i out h k ∙ rw (zero-add n, take-map numberOf n l, drop-replicate n shardPlaces noRelay) in
+      let s : length (map keyNumber (take n l)) ≡ n = length-map (take n l) keyNumber ∙ length-take-le n l (omega (arith, h .source, length-map l keyNumber)) in
+      let o : out ≡ map keyNumber (take n l) ++ replicate (shardPlaces - n) noRelay =
+      fill-end _ 0 (map keyNumber l) n i out h k ∙ rw (zero-add n, take-map keyNumber n l, drop-replicate n shardPlaces noRelay) in
       rw (o, s)
 
-  pub numbers-step : (d : Relay) → i < n → FillLoop (replicate shardPlaces noRelay) 0 (map numberOf l) n (i + 1) (set out i (getD l i d .no))
-  numbers-step d k = fill-step-of numberOf d (replicate shardPlaces noRelay) l n i out (getD l i d .no) h k refl
+  pub numbers-step : i < n → FillLoop (replicate shardPlaces noRelay) 0 (map keyNumber l) n (i + 1) (set out i (record { 0 = getD l i 0 % 4294967296 }))
+  unfolding keyNumber
+  numbers-step k = fill-step-of keyNumber 0 (replicate shardPlaces noRelay) l n i out (keyNumber (getD l i 0)) h k refl
 
-pub ruleset numbers = (numbers-start, numbers-step, numbers-end, fill-size, rows-length, needs)
+pub number-fits : (k : ℕ) → Fits w32 (k % 4294967296)
+number-fits k = record { fits = omega arith }
 
--- order is the relays of the set in order, of which n are taken
-module _ (set wanted : ℕ) (rows order : List Relay) (len most n m : ℕ) where
-  pub chosen : (p : Placement) → take len order ≡ rankedIn set rows → len ≤ m → length order ≡ m → most ≡ min wanted 24 → n ≡ min most len
-      → p ≡ placementOf (map numberOf (take n order)) → p ≡ placementOf (takenIn set (min wanted 24) rows)
+pub ruleset numbers = (numbers-start, numbers-step, numbers-end, number-fits, fill-size, rows-length, needs)
+
+-- the keys of the relays of the set in order, of which n are taken
+module _ (set wanted : ℕ) (rows : List Relay) (keys : List ℕ) (len most n : ℕ) where
+  pub chosen : (p : Placement) → map keyNumber (take len keys) ≡ map numberOf (rankedIn set rows) → most ≡ min wanted 24 → n ≡ min most len
+      → p ≡ placementOf (map keyNumber (take n keys)) → p ≡ placementOf (takenIn set (min wanted 24) rows)
   unfolding takenIn
-  chosen p e b l f g q = q ∙ rw (← f, ← e, take-least most len n order g)
+  chosen p e f g q =
+      let first : map keyNumber (take n keys) ≡ map numberOf (take most (rankedIn set rows)) =
+      rw (take-least most len n keys g, ← take-map keyNumber most (take len keys), e) (take-map numberOf most (rankedIn set rows)) in
+      q ∙ rw (← f, first)
 
   pub places-few : most ≡ min wanted 24 → n ≡ min most len → n ≤ 24
   places-few f g = omega arith

@@ -2,9 +2,9 @@
 ghost use mathlib.Core.Path.{_≡_};
 ghost use mathlib.Core.List.{map};
 ghost use Prim.Native.Nat.{_≤_, min};
-ghost use lib.ListN.{take};
-ghost use Rattle.rules.specs.Relays.{numberOf, taken, placementOf};
-ghost use Rattle.placing.specs.Order.{takenIn};
+ghost use lib.ListN.{length, take};
+ghost use Rattle.rules.specs.Relays.{taken, placementOf};
+ghost use Rattle.placing.specs.Order.{keyNumber, takenIn};
 use super::order::rank;
 use super::set::eligible;
 use rules::Placement;
@@ -17,17 +17,16 @@ fn least(a: usize, b: usize) -> usize
     if a < b { a } else { b }
 }
 
-// The numbers of the first n rows.
-fn first_numbers(rows: [Relay; 32], n: usize) -> Placement
-    requires { ⌜ n ≤ 24 ⌝ }
-    ensures { λ r. ⌜ r ≡ placementOf (map numberOf (take n rows)) ⌝ }
+// The numbers of the relays with the first n keys.
+fn first_numbers(keys: &[u64; 32], n: usize) -> Placement
+    requires { ⌜ (length (now keys) ≡ 32) × (n ≤ 24) ⌝ }
+    ensures { λ r. ⌜ r ≡ placementOf (map keyNumber (take n (now (keys .entry)))) ⌝ }
 {
     let none = RelayNo(0);
     let mut relays = [none; 24];
     let mut i: usize = 0;
     while i < n {
-        let row = rows[i];
-        let number = row.no;
+        let number = RelayNo((keys[i] % 4294967296) as u32);
         relays[i] = number;
         i += 1;
     }
@@ -41,8 +40,8 @@ pub fn choose_from(set: u32, wanted: usize, rows: [Relay; 32]) -> Placement
     let order = rank(set, rows);
     let most = least(wanted, 24);
     let n = least(most, order.len);
-    let first = order.rows;
-    first_numbers(first, n)
+    let keys = order.keys;
+    first_numbers(&keys, n)
 }
 
 // The relays that a put with shards of so many bytes takes, as many as are wanted and there are, and no more than 24.
