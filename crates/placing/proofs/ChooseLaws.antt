@@ -1,6 +1,6 @@
 -- The numbers of the first keys as a placement, and the relays that are taken as the first of those in order. Assumes nothing.
-use mathlib.Core.Path.{_≡_, refl, sym, _∙_, ap}
-use mathlib.Core.List.{List, [], _∷_, _++_, map}
+use mathlib.Core.Path.{_≡_, refl, sym, _∙_}
+use mathlib.Core.List.{List, _++_, map}
 use Prim.Native.Nat.{ℕ, zero, suc, _+_, _-_, _%_, _<_, _≤_, min}
 use native.Mathlib.Nat.{zero-add}
 use native.Mathlib.Omega.{arith}
@@ -20,11 +20,7 @@ use Rattle.rules.specs.Fresh.{noRelay}
 use Rattle.rules.specs.Relays.{numberOf, placementOf, eligibleSet, taken}
 use Rattle.placing.specs.Order.{keyNumber, rankedIn, takenIn}
 use Rattle.placing.specs.OrderLaws.{taken-set}
-
-take-map : {A B : Type 0} (f : A → B) (n : ℕ) (l : List A) → take n (map f l) ≡ map f (take n l)
-take-map f zero l = refl
-take-map f (suc n) [] = refl
-take-map f (suc n) (x ∷ xs) = ap (λ ys. f x ∷ ys) (take-map f n xs)
+use Rattle.placing.proofs.RoomLaws.{take-map}
 
 drop-replicate : {A : Type 0} (n m : ℕ) (x : A) → drop n (replicate m x) ≡ replicate (m - n) x
 drop-replicate zero m x = let e : m - 0 ≡ m = omega arith in rw e

@@ -3,14 +3,22 @@
 use mathlib.Core.Bool.{Bool, _&&_, _||_, cond, not}
 use mathlib.Core.List.{List, map}
 use Prim.Native.Nat.{ℕ, _+_, _-_, _^_}
-use lib.Dec.{leb}
+use lib.Dec.{eqb, leb}
 use Rattle.lists.specs.Lists.{allOf}
+use Rattle.rules.specs.declared.RelayNo.{RelayNo}
 use Rattle.rules.specs.declared.Placement.{Placement}
 use Rattle.rules.specs.declared.Relay.{Relay}
 use Rattle.rules.specs.Tables.{withRoom}
 use Rattle.rules.specs.Relays.{holdsShard, loaded}
 use Rattle.placing.specs.declared.Loaded.{Loaded}
 use Rattle.placing.specs.declared.LoadedRow.{LoadedRow}
+
+-- a relay's number as the code lists it, and whether a number of such a list is n
+abbrev pub relayNumber : RelayNo → ℕ
+relayNumber n = n .0
+
+abbrev pub isNumber : ℕ → ℕ → Bool
+isNumber n m = eqb m n
 
 -- the relay has a shard of the placement
 abbrev pub hasShard : Placement → Relay → Bool
@@ -34,9 +42,12 @@ canLoad bytes p r = not (holdsShard (r .no) p) || (leb (r .used + bytes) mostByt
 unfoldable pub canLoadAll : ℕ → Placement → List Relay → Bool
 canLoadAll bytes p rs = allOf (canLoad bytes p) rs
 
--- a relay, and the relays, after an object is placed; as they were where a number would not fit
-unfoldable pub loadedRow : ℕ → Placement → Relay → LoadedRow
-loadedRow bytes p r = record { fits = canLoad bytes p r; row = cond (canLoad bytes p r) (loaded bytes p r) r }
+-- a relay, of which the Bool says whether it has a shard of the object, and the relays after the object is placed; as they were where a number would
+-- not fit
+unfoldable pub loadedIf : Bool → ℕ → Relay → LoadedRow
+loadedIf has bytes r =
+    let fits = not has || (leb (r .used + bytes) mostBytes && leb (r .held + 1) mostShards) in
+    record { fits = fits; row = cond fits (cond has (withRoom r (r .used + bytes) (r .held + 1)) r) r }
 
 unfoldable pub loadedRows : ℕ → Placement → List Relay → Loaded
 loadedRows bytes p rs = record { fits = canLoadAll bytes p rs; rows = cond (canLoadAll bytes p rs) (map (loaded bytes p) rs) rs }

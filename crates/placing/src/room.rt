@@ -2,10 +2,10 @@
 ghost use mathlib.Core.Path.{_≡_};
 ghost use mathlib.Core.List.{[], _∷_, map};
 ghost use Prim.Native.Nat.{min};
-ghost use lib.ListN.{take};
+ghost use lib.ListN.{length, take};
 ghost use Rattle.lists.specs.Lists.{anyOf, bitSet};
-ghost use Rattle.rules.specs.Relays.{sameRelay, holdsShard, lightened};
-ghost use Rattle.placing.specs.Room.{hasShard, lightenedBy};
+ghost use Rattle.rules.specs.Relays.{holdsShard, lightened};
+ghost use Rattle.placing.specs.Room.{relayNumber, isNumber, hasShard, lightenedBy};
 use lent_relays::give_back_set;
 use rows::shard_bytes;
 use rules::Entry;
@@ -21,15 +21,30 @@ fn place_count(len: usize) -> usize
     if len < 24 { len } else { 24 }
 }
 
-// Whether one of the first `len` places is of this relay.
-fn any_place(relays: [RelayNo; 24], len: usize, n: RelayNo) -> bool
-    ensures { λ r. ⌜ r ≡ anyOf (sameRelay n) (take len relays) ⌝ }
+// The relays' numbers, place by place.
+pub(crate) fn place_numbers(place: Placement) -> [u32; 24]
+    ensures { λ r. ⌜ r ≡ map relayNumber (place .relays) ⌝ }
+{
+    let relays = place.relays;
+    let mut numbers: [u32; 24] = [0; 24];
+    let mut i: usize = 0;
+    while i < 24 {
+        let x = relays[i];
+        numbers[i] = x.0;
+        i += 1;
+    }
+    numbers
+}
+
+// Whether one of the first `len` numbers is n.
+pub(crate) fn any_number(numbers: &[u32; 24], len: usize, n: u32) -> bool
+    requires { ⌜ length (now numbers) ≡ 24 ⌝ }
+    ensures { λ r. ⌜ r ≡ anyOf (isNumber n) (take len (now (numbers .entry))) ⌝ }
 {
     let count = place_count(len);
     let mut i: usize = 0;
     while i < count {
-        let x = relays[i];
-        if x.0 == n.0 {
+        if numbers[i] == n {
             return true;
         }
         i += 1;
@@ -41,20 +56,20 @@ fn any_place(relays: [RelayNo; 24], len: usize, n: RelayNo) -> bool
 pub fn holds_shard(n: RelayNo, place: Placement) -> bool
     ensures { λ r. ⌜ r ≡ holdsShard n place ⌝ }
 {
-    let relays = place.relays;
-    any_place(relays, place.len, n)
+    let numbers = place_numbers(place);
+    any_number(&numbers, place.len, n.0)
 }
 
 // The rows that have a shard of the placement, one bit for each, the first row's lowest.
 fn held_set(rows: [Relay; 32], place: Placement) -> u32
     ensures { λ r. ⌜ r ≡ bitSet (hasShard place) rows ⌝ }
 {
+    let numbers = place_numbers(place);
     let mut set: u32 = 0;
     let mut i: usize = 0;
     while i < 32 {
         let row = rows[i];
-        let n = row.no;
-        if holds_shard(n, place) {
+        if any_number(&numbers, place.len, row.no.0) {
             set |= 1 << i;
         }
         i += 1;
