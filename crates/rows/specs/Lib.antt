@@ -4,3 +4,5 @@ pub mod ChainLaws
 pub mod Links
 pub mod LinkLaws
 pub mod EntryLaws
+pub mod PathKeys
+pub mod PathKeyLaws

@@ -3,6 +3,7 @@
 mod any;
 mod chain;
 mod find;
+mod path_keys;
 mod scope;
 mod shards;
 mod texts;
@@ -23,6 +24,7 @@ pub use find::free_relay;
 pub use find::free_token;
 pub use find::free_volume;
 pub use find::is_number;
+pub use path_keys::path_key;
 pub use scope::can_read;
 pub use scope::can_write;
 pub use scope::cap_fits;
