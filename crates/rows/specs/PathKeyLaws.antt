@@ -16,27 +16,27 @@ use Rattle.rows.specs.PathKeys.{keyBytes, keyOf}
 pub key-given : (n : ℕ) (l : List ℕ) → 0 < keyOf n l
 unfolding keyOf
 key-given n l =
-    let k = keyBytes n (drop (length l - 16) l) in
+    let k = bitXor (keyBytes 0 (drop (length l - 16) l)) (n * 2 ^ 40 % 2 ^ 64) * 2 ^ 1 % 2 ^ 64 in
     omega (arith, or-add-and k 1, and-le-l k 1)
 
 -- the bytes of a path up to the byte i of c are in the number: with those from i on it is the whole
-pub record KeyLoop (n : ℕ) (path : Text) (c key i : ℕ) : Type 0 where
+pub record KeyLoop (path : Text) (c key i : ℕ) : Type 0 where
   pub size : length (textBytes path) ≡ c
   pub most : c ≤ 128
-  pub rest : keyBytes key (drop i (textBytes path)) ≡ keyBytes n (drop (c - 16) (textBytes path))
+  pub rest : keyBytes key (drop i (textBytes path)) ≡ keyBytes 0 (drop (c - 16) (textBytes path))
 
-module _ (n : ℕ) (path : Text) (c : ℕ) where
-  pub key-start : (i : ℕ) → c ≡ min (path .len) pathLimit → i ≡ c - 16 → length (path .bytes) ≡ pathLimit → KeyLoop n path c n i
+module _ (path : Text) (c : ℕ) where
+  pub key-start : (i : ℕ) → c ≡ min (path .len) pathLimit → i ≡ c - 16 → length (path .bytes) ≡ pathLimit → KeyLoop path c 0 i
   key-start i e f q = record { size = part-length (path .bytes) (path .len) pathLimit c e q; most = omega arith; rest = rw f }
 
-  module _ (key i : ℕ) (h : KeyLoop n path c key i) where
-    pub key-end : (r : ℕ) → c ≤ i → r ≡ bitOr key 1 → r ≡ keyOf n (textBytes path)
+  module _ (key i : ℕ) (h : KeyLoop path c key i) where
+    pub key-end : (n r : ℕ) → c ≤ i → r ≡ bitOr (bitXor key (n * 2 ^ 40 % 2 ^ 64) * 2 ^ 1 % 2 ^ 64) 1 → r ≡ keyOf n (textBytes path)
     unfolding keyOf keyBytes
-    key-end r w e =
+    key-end n r w e =
         let s = rw (drop-of-length-le (textBytes path) {i = i} (omega (arith, h .size))) at (h .rest) in
-        rw (h .size) (e ∙ ap (λ (k : ℕ). bitOr k 1) s)
+        rw (h .size) (e ∙ ap (λ (k : ℕ). bitOr (bitXor k (n * 2 ^ 40 % 2 ^ 64) * 2 ^ 1 % 2 ^ 64) 1) s)
 
-    pub key-step : (k : ℕ) → i < c → k ≡ bitXor (key * 2 ^ 5 % 2 ^ 64) (getD (path .bytes) i 0) → KeyLoop n path c k (i + 1)
+    pub key-step : (k : ℕ) → i < c → k ≡ bitXor (key * 2 ^ 5 % 2 ^ 64) (getD (path .bytes) i 0) → KeyLoop path c k (i + 1)
     unfolding keyBytes
     key-step k w e =
         let there : getD (textBytes path) i 0 ≡ getD (path .bytes) i 0 =

@@ -10,6 +10,6 @@ unfoldable pub keyBytes : ℕ → List ℕ → ℕ
 keyBytes k [] = k
 keyBytes k (b ∷ bs) = keyBytes (bitXor (k * 2 ^ 5 % 2 ^ 64) b) bs
 
--- the lowest bit is set, so that the number is not 0
+-- the volume's number is joined 40 bits up, and a bit is set below the others, so that the number is not 0
 unfoldable pub keyOf : ℕ → List ℕ → ℕ
-keyOf n l = bitOr (keyBytes n (drop (length l - 16) l)) 1
+keyOf n l = bitOr (bitXor (keyBytes 0 (drop (length l - 16) l)) (n * 2 ^ 40 % 2 ^ 64) * 2 ^ 1 % 2 ^ 64) 1

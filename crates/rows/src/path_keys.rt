@@ -26,11 +26,12 @@ pub fn path_key(n: u32, path: Text) -> u64
     ensures { λ r. ⌜ r ≡ keyOf n (textBytes path) ⌝ }
 {
     let count = byte_count(path.len);
-    let mut key = n as u64;
+    let mut key: u64 = 0;
     let mut i = key_start(count);
     while i < count {
         key = (key << 5) ^ (path.bytes[i] as u64);
         i += 1;
     }
-    key | 1
+    let both = key ^ ((n as u64) << 40);
+    (both << 1) | 1
 }

@@ -8,7 +8,7 @@ pub path-key-spec : {M : Type 1} → statement M
 path-key-spec =
     tie.close
     (tie.spec
-    (λ n path count key₀ i₀ key i. KeyLoop n path count key i)
+    (λ n path count key₀ i₀ key i. KeyLoop path count key i)
     (λ n path count key₀ i₀ key i. count - i)
     (λ c κs. search keys)
     (λ c κs. search keys)
