@@ -1,4 +1,4 @@
--- The loop that sums an entry's key, and what keys that differ say of two entries. Assumes nothing.
+-- What keys that differ say of two entries, and the loop that stores the keys. Assumes nothing.
 use mathlib.Core.Path.{_≡_, refl, sym, _∙_, ap}
 use mathlib.Core.Bool.{Bool, true, false, not}
 use mathlib.Core.Logic.{⊎-elim}
@@ -28,51 +28,12 @@ use Rattle.rules.specs.declared.Tables.{Tables}
 use Rattle.rules.specs.Tables.{given, numbered}
 use Rattle.rules.specs.Sound.{soundEntry, soundEntries, sameEntry}
 use Rattle.rows.specs.Blank.{blankEntry}
+use Rattle.rows.specs.PathKeys.{keyOf}
+use Rattle.rows.specs.PathKeyLaws.{key-given}
 use Rattle.soundness.proofs.FillLaws.{fill-zero, fill-stored}
-use Rattle.soundness.specs.PathKeys.{keyOf, pathKey}
-
--- the first k bytes of l are summed up to the byte i of n: sum is m with the bytes so far
-pub record KeyLoop (m : ℕ) (l : List ℕ) (k n sum key i : ℕ) : Type 0 where
-  pub size : length (take k l) ≡ n
-  pub most : n ≤ 128
-  pub rest : key + keyOf sum (drop i (take k l)) ≡ keyOf m (take k l)
-  pub sum-most : sum ≤ 4294967296 + 255 * i
-  pub at : i ≤ n
-  pub key-most : key ≤ 4295000000 * i
-  pub each : (j : ℕ) → Fits w8 (getD l j 0)
-
-module _ (m : ℕ) (l : List ℕ) (k n : ℕ) where
-  pub key-start : Fits w32 m → n ≡ min k 128 → length l ≡ 128 → ((j : ℕ) → Fits w8 (getD l j 0)) → KeyLoop m l k n m 0 0
-  key-start h e q f = record { each = f; at = omega arith; size = part-length l k 128 n e q; most = omega arith; rest = omega arith; sum-most = omega arith; key-most = omega arith }
-
-  module _ (sum key i : ℕ) (h : KeyLoop m l k n sum key i) where
-    pub key-end : (r : ℕ) → n ≤ i → r ≡ key + sum → r ≡ keyOf m (take k l)
-    unfolding keyOf
-    key-end r w e = e ∙ (rw (drop-of-length-le (take k l) {i = i} (omega (arith, h .size))) at (h .rest))
-
-    pub key-fits : Fits w64 (key + sum)
-    key-fits = record { fits = omega (arith, h .key-most, h .sum-most, h .most, h .at) }
-
-    module _ (w : i < n) where
-      pub key-step : (s′ k′ : ℕ) → s′ ≡ sum + getD l i 0 → k′ ≡ key + sum → KeyLoop m l k n s′ k′ (i + 1)
-      unfolding keyOf
-      key-step s′ k′ e f =
-          let there : getD (take k l) i 0 ≡ getD l i 0 = getD-take k l i 0 (omega (arith, length-take k l, h .size)) in
-          let r = rw (drop-cons (take k l) i 0 (omega (arith, h .size)), there) at (h .rest) in
-          rw (e, f)
-          (record { each = h .each; at = omega arith; size = h .size; most = h .most; rest = rw add-one (omega (arith, r)); sum-most = omega (arith, h .sum-most, h .each i .fits); key-most = omega (arith, h .key-most, h .sum-most, h .most) })
-
-      pub sum-fits : Fits w64 (sum + getD l i 0)
-      sum-fits = record { fits = omega (arith, h .sum-most, h .most, h .each i .fits) }
-
-pub ruleset keys = (key-step, key-fits, sum-fits, key-end, key-start, needs)
+use Rattle.soundness.specs.PathKeys.{pathKey}
 
 -- entries of the same volume and path have the same key, and it is not 0
-key-least : (n : ℕ) (l : List ℕ) → n ≤ keyOf n l
-unfolding keyOf
-key-least n [] = omega arith
-key-least n (b ∷ bs) = omega arith
-
 used-key : (e : Entry) → 0 < e .volume .0 → pathKey e ≡ keyOf (e .volume .0) (textBytes (e .path))
 unfolding pathKey
 used-key e h = rw (ne-eqb (e .volume .0) 0 (omega arith))
@@ -89,7 +50,7 @@ same-key a b h =
     let k : keyOf m (textBytes (b .path)) ≡ keyOf n (textBytes (a .path)) = rw (same, text) in
     let z = used-key a used in
     let y = used-key b (omega arith) in
-    and-both (lt-ltb 0 (pathKey a) (omega (arith, z, key-least n (textBytes (a .path))))) (eq-eqb (pathKey b) (pathKey a) (y ∙ k ∙ sym z))
+    and-both (lt-ltb 0 (pathKey a) (omega (arith, z, key-given n (textBytes (a .path))))) (eq-eqb (pathKey b) (pathKey a) (y ∙ k ∙ sym z))
 
 other-key : (a b : Entry) → false ≡ numbered (pathKey a) (pathKey b) → sameEntry a b ≡ false
 other-key a b h = not-pass (sameEntry a b) (λ t. not-both (same-key a b t) (sym h))
@@ -147,7 +108,7 @@ module _ (es : List Entry) (i : ℕ) (out next : List ℕ) (h : FillLoop (replic
 no-key : (e : Entry) → given (pathKey e) ≡ false → e .volume .0 ≡ 0
 no-key e h =
     ⊎-elim
-    (λ w. absurd (omega (arith, ltb-true 0 (e .volume .0) w, ltb-false 0 (pathKey e) h, used-key e (ltb-true 0 (e .volume .0) w), key-least (e .volume .0) (textBytes (e .path)))))
+    (λ w. absurd (omega (arith, ltb-true 0 (e .volume .0) w, ltb-false 0 (pathKey e) h, used-key e (ltb-true 0 (e .volume .0) w), key-given (e .volume .0) (textBytes (e .path)))))
     (λ w. omega (arith, ltb-false 0 (e .volume .0) w))
     (pass-or-fail (given (e .volume .0)))
 

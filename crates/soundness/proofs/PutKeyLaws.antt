@@ -18,7 +18,7 @@ use Rattle.text.specs.Text.{textBytes}
 use Rattle.rules.specs.declared.Put.{Put}
 use Rattle.rules.specs.Sound.{samePath}
 use Rattle.rows.specs.Blank.{blankPut}
-use Rattle.soundness.specs.PathKeys.{keyOf, putKey}
+use Rattle.soundness.specs.PathKeys.{putKey}
 
 -- the keys of the first i puts are stored
 abbrev pub PutLoop : List Put → ℕ → ℕ → List ℕ → Type 0

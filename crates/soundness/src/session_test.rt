@@ -7,9 +7,9 @@ ghost use Rattle.lists.specs.Lists.{allOf, noClash};
 ghost use Rattle.rules.specs.declared.Tables.{Tables};
 ghost use Rattle.rules.specs.Sound.{soundPut, samePath, soundSession};
 ghost use Rattle.soundness.specs.PathKeys.{putKey};
-use super::path_keys::key_of;
 use super::placements::least;
 use rows::is_given;
+use rows::path_key;
 use rules::Put;
 use rules::Session;
 use rules::Tables;
@@ -60,8 +60,7 @@ fn put_keys(rows: [Put; 8], n: usize) -> [u64; 8]
     while i < n {
         let p = rows[i];
         let path = p.path;
-        let bytes = path.bytes;
-        keys[i] = key_of(1, bytes, path.len);
+        keys[i] = path_key(1, path);
         i += 1;
     }
     keys
