@@ -4,5 +4,6 @@ pub mod KeyLaws
 pub mod NumberLaws
 pub mod PlaceLaws
 pub mod PutKeyLaws
+pub mod RemainderLaws
 pub mod ShardLaws
 pub mod Told

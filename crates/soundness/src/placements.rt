@@ -1,5 +1,6 @@
 // An entry's placement: its relays' numbers were given, and no two are the same.
 ghost use mathlib.Core.Path.{_≡_};
+ghost use mathlib.Core.Bool.{true};
 ghost use Prim.Native.Nat.{_+_, min};
 ghost use Rattle.lists.specs.Lists.{allOf, anyOf, noClash};
 ghost use Rattle.rules.specs.declared.Tables.{Tables};
@@ -60,10 +61,30 @@ fn all_given(numbers: &[u32], last: u32) -> bool
     all
 }
 
-// No two numbers are the same.
+// True only where no two numbers are the same: their remainders by 64 differ.
+fn remainders_differ(numbers: &[u32]) -> bool
+    ensures { λ r. ⌜ (r ≡ true → noClash sameNumber (now (numbers .entry)) ≡ true) ⌝ }
+{
+    let mut seen = [false; 64];
+    let mut i: usize = 0;
+    while i < numbers.len() {
+        let r = (numbers[i] % 64) as usize;
+        if seen[r] {
+            return false;
+        }
+        seen[r] = true;
+        i += 1;
+    }
+    true
+}
+
+// No two numbers are the same. Most placements pass the quick test.
 fn all_differ(numbers: &[u32]) -> bool
     ensures { λ r. ⌜ r ≡ noClash sameNumber (now (numbers .entry)) ⌝ }
 {
+    if remainders_differ(numbers) {
+        return true;
+    }
     let mut i: usize = 0;
     while i < numbers.len() {
         if among(&numbers[i + 1..], numbers[i]) {

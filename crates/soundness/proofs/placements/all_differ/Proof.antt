@@ -3,6 +3,7 @@ use lib.ListN.{length}
 use Rattle.lists.specs.LoopLaws.{ClashLoop, clashes}
 use Rattle.soundness.specs.Places.{sameNumber}
 use Rattle.soundness.proofs.PlaceLaws.{number-again, number-once}
+use Rattle.soundness.proofs.RemainderLaws.{quick-differ}
 use Rattle.soundness.proofs.placements.all_differ.Statement.{statement}
 use Rattle.soundness.proofs.placements.all_differ.Tie as tie
 
@@ -12,6 +13,8 @@ all-differ-spec =
     (tie.spec
     (λ numbers i₀ i. ClashLoop sameNumber numbers (length numbers) i)
     (λ numbers i₀ i. length numbers - i)
+    (λ c κs. search clashes)
+    (λ c. search quick-differ)
     (λ c. search clashes)
     (λ c. search clashes)
     (λ c. search clashes)
