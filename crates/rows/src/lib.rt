@@ -24,6 +24,7 @@ pub use find::free_relay;
 pub use find::free_token;
 pub use find::free_volume;
 pub use find::is_number;
+pub use path_keys::bytes_key;
 pub use path_keys::path_key;
 pub use scope::can_read;
 pub use scope::can_write;

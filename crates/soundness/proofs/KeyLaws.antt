@@ -2,17 +2,12 @@
 use mathlib.Core.Path.{_≡_, refl, sym, _∙_, ap}
 use mathlib.Core.Bool.{Bool, true, false, not}
 use mathlib.Core.Logic.{⊎-elim}
-use mathlib.Core.List.{List, [], _∷_, map}
-use Prim.Native.Nat.{ℕ, zero, suc, _+_, _*_, _<_, _≤_, min}
-use mir.Val.{Fits}
-use mir.Syntax.{w8, w32, w64}
-use borrow.Author.Needs.{needs}
+use mathlib.Core.List.{List, map}
+use Prim.Native.Nat.{ℕ, _+_, _<_, _≤_}
 use borrow.Author.Tests.{not-true, ltb-true, ltb-false, lt-ltb, eqb-true, eq-eqb, ne-eqb}
 use native.Mathlib.Omega.{arith}
-use native.Mathlib.Numerals.{add-one}
 use lib.Dec.{eqb}
-use lib.ListN.{length, take, drop, getD, set, replicate, drop-of-length-le, length-map, length-take}
-use lib.Seq.{drop-cons, getD-take}
+use lib.ListN.{length, drop, getD, set, replicate, length-map}
 use Rattle.lists.specs.Bytes.{sameBytes}
 use Rattle.lists.specs.ByteLaws.{same-eq}
 use Rattle.lists.specs.BoolLaws.{and-left, and-right, and-both, not-both, not-pass, pass-or-fail}
@@ -20,7 +15,7 @@ use Rattle.lists.specs.Lists.{anyOf, noClash}
 use Rattle.lists.specs.TestLaws.{at-none, none-at, at-all, at-clash}
 use Rattle.lists.specs.RowLaws.{map-row}
 use Rattle.lists.specs.AnswerLaws.{part-fails}
-use Rattle.lists.specs.LoopLaws.{AnyLoop, any-found, any-step, any-none, ClashLoop, clash-found, clash-step, part-length}
+use Rattle.lists.specs.LoopLaws.{AnyLoop, any-found, any-step, any-none, ClashLoop, clash-found, clash-step}
 use Rattle.lists.specs.ByteLoopLaws.{FillLoop}
 use Rattle.text.specs.Text.{textBytes}
 use Rattle.rules.specs.declared.Entry.{Entry}

@@ -2,7 +2,7 @@
 ghost use mathlib.Core.Path.{_≡_};
 ghost use mathlib.Core.List.{map};
 ghost use Rattle.soundness.specs.PathKeys.{pathKey};
-use rows::path_key;
+use rows::bytes_key;
 use rules::Entry;
 
 // The key of each entry: 0 of a free row.
@@ -15,7 +15,8 @@ pub(crate) fn path_keys(rows: [Entry; 64]) -> [u64; 64]
         let e = rows[i];
         if e.volume.0 != 0 {
             let path = e.path;
-            keys[i] = path_key(e.volume.0, path);
+            let bytes = path.bytes;
+            keys[i] = bytes_key(e.volume.0, bytes, path.len);
         }
         i += 1;
     }

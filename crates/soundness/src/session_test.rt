@@ -8,8 +8,8 @@ ghost use Rattle.rules.specs.declared.Tables.{Tables};
 ghost use Rattle.rules.specs.Sound.{soundPut, samePath, soundSession};
 ghost use Rattle.soundness.specs.PathKeys.{putKey};
 use super::placements::least;
+use rows::bytes_key;
 use rows::is_given;
-use rows::path_key;
 use rules::Put;
 use rules::Session;
 use rules::Tables;
@@ -60,7 +60,8 @@ fn put_keys(rows: [Put; 8], n: usize) -> [u64; 8]
     while i < n {
         let p = rows[i];
         let path = p.path;
-        keys[i] = path_key(1, path);
+        let bytes = path.bytes;
+        keys[i] = bytes_key(1, bytes, path.len);
         i += 1;
     }
     keys
