@@ -9,7 +9,6 @@ mod set;
 pub use choose::choose_from;
 pub use choose::choose_relays;
 pub use loading::load;
-pub use order::comes_before;
 pub use put::place_put;
 pub use room::give_back_entry;
 pub use room::give_back_one;
