@@ -6,3 +6,4 @@ pub mod LinkLaws
 pub mod EntryLaws
 pub mod PathKeys
 pub mod PathKeyLaws
+pub mod SumLaws

@@ -12,7 +12,7 @@ use lists::Found;
 use rules::Token;
 
 // A number in 64 bits.
-fn wide(n: u32) -> u64
+pub fn wide(n: u32) -> u64
     ensures { λ r. ⌜ r ≡ n ⌝ }
 {
     n as u64

@@ -1,18 +1,12 @@
 // A number for a path, by which most paths that differ are told apart without comparing them.
 ghost use mathlib.Core.Path.{_≡_};
-ghost use Prim.Native.Nat.{_-_, min};
+ghost use Prim.Native.Nat.{_-_};
 ghost use lib.ListN.{take};
-ghost use Rattle.text.specs.Text.{pathLimit, textBytes};
+ghost use Rattle.text.specs.Text.{textBytes};
 ghost use Rattle.rows.specs.PathKeys.{keyOf};
 use text::PATH_LIMIT;
 use text::Text;
-
-// How many bytes a text of this length holds.
-fn byte_count(len: usize) -> usize
-    ensures { λ r. ⌜ r ≡ min len pathLimit ⌝ }
-{
-    if len < PATH_LIMIT { len } else { PATH_LIMIT }
-}
+use text::byte_count;
 
 // Where the last 16 of so many bytes start.
 fn key_start(count: usize) -> usize

@@ -11,12 +11,12 @@ ghost use Rattle.rules.specs.Sound.{soundIn, soundEntry, soundEntries, sameEntr
 use super::numbers::any_number;
 use super::numbers::volume_numbers;
 use super::numbers::volume_widths;
-use super::numbers::wide;
 use super::path_keys::path_keys;
 use super::placements::sound_placement;
 use lists::Found;
 use rows::find_number;
 use rows::is_number;
+use rows::wide;
 use rules::Entry;
 use rules::Placement;
 use rules::Tables;

@@ -7,6 +7,7 @@ ghost use Rattle.lists.specs.Lists.{anyOf, noClash};
 ghost use Rattle.rules.specs.Tables.{given, numbered};
 ghost use Rattle.soundness.specs.Numbers.{volumeNumber, volumeWidth, volumeK, relayNumber};
 use rows::is_wide_number;
+use rows::wide;
 use rules::Relay;
 use rules::Volume;
 
@@ -56,13 +57,6 @@ pub(crate) fn numbers_differ(numbers: &[u64]) -> bool
         i += 1;
     }
     true
-}
-
-// A row's number in 64 bits.
-pub(crate) fn wide(n: u32) -> u64
-    ensures { λ r. ⌜ r ≡ n ⌝ }
-{
-    n as u64
 }
 
 pub(crate) fn volume_numbers(rows: [Volume; 8]) -> [u64; 8]

@@ -9,11 +9,11 @@ ghost use Rattle.soundness.specs.Numbers.{volumeNumber, volumeK};
 ghost use Rattle.soundness.specs.Places.{placesOf};
 use super::numbers::volume_ks;
 use super::numbers::volume_numbers;
-use super::numbers::wide;
 use super::placements::place_numbers;
 use lists::Found;
 use rows::find_number;
 use rows::shard_size;
+use rows::wide;
 use rules::Entry;
 use rules::Tables;
 

@@ -23,25 +23,25 @@ pub struct Text {
     pub len: usize,
 }
 
-// n, or the most bytes that a text holds where n is more.
-fn capped(n: usize) -> usize
-    ensures { λ r. ⌜ r ≡ min n pathLimit ⌝ }
+// How many bytes a text of this length holds: at most as many as its array.
+pub fn byte_count(len: usize) -> usize
+    ensures { λ r. ⌜ r ≡ min len pathLimit ⌝ }
 {
-    if n < PATH_LIMIT { n } else { PATH_LIMIT }
+    if len < PATH_LIMIT { len } else { PATH_LIMIT }
 }
 
-// How many bytes the text has: at most as many as its array.
-fn text_len(t: Text) -> usize
+// How many bytes the text has.
+pub fn text_len(t: Text) -> usize
     ensures { λ r. ⌜ r ≡ length (textBytes t) ⌝ }
 {
-    capped(t.len)
+    byte_count(t.len)
 }
 
 // The first bytes of s, at most as many as a text holds.
 pub fn to_text(s: &[u8]) -> Text
     ensures { λ r. ⌜ r ≡ toText (take pathLimit (now (s .entry))) ⌝ }
 {
-    let n = capped(s.len());
+    let n = byte_count(s.len());
     let mut bytes = [0u8; PATH_LIMIT];
     let mut i: usize = 0;
     while i < n {

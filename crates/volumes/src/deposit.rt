@@ -1,7 +1,6 @@
 // Deposit.
 ghost use mathlib.Core.Path.{_≡_};
-ghost use Prim.Native.Nat.{_<_, _+_};
-ghost use lib.Dec.{ltb};
+ghost use Prim.Native.Nat.{_<_};
 ghost use lib.ListN.{getD};
 ghost use Rattle.lists.specs.Lists.{hit};
 ghost use Rattle.rules.specs.VolumeCalls.{tooMuch, depositIn, depositRule};
@@ -13,22 +12,13 @@ use super::answers::refuse;
 use lists::Found;
 use rows::find_volume;
 use rows::is_open;
+use rows::passes;
 use rules::Tables;
 use rules::Volume;
 use rules::VolumeNo;
 use rules::numbers::NO_VOLUME;
 use rules::numbers::STATE;
 use rules::numbers::TOO_MUCH;
-
-// Whether coins on top of a sum pass a limit. The new sum itself may not fit in 64 bits.
-fn passes(limit: u64, sum: u64, coins: u64) -> bool
-    ensures { λ r. ⌜ r ≡ ltb limit (sum + coins) ⌝ }
-{
-    if limit < coins {
-        return true;
-    }
-    limit - coins < sum
-}
 
 // The balance would be above 10^15, or all deposits ever above 10^18.
 fn too_much(t: Tables, v: Volume, coins: u64) -> bool
