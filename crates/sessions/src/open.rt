@@ -1,6 +1,11 @@
 // Open.
 ghost use mathlib.Core.Path.{_≡_};
-ghost use Rattle.lists.specs.Lists.{hit};
+ghost use mathlib.Core.Bool.{cond};
+ghost use Prim.Native.Nat.{ℕ};
+ghost use Rattle.lists.specs.Lists.{hit, miss};
+ghost use Rattle.rules.specs.declared.Tables.{Tables};
+ghost use Rattle.rules.specs.declared.TokenNo.{TokenNo};
+ghost use Rattle.rules.specs.Tables.{tokenOf};
 ghost use Rattle.rules.specs.SessionCalls.{openRule, openToken, openVolume, opened};
 ghost use Rattle.sessions.specs.Parts.{onSession};
 use super::SessionOutcome;
@@ -39,50 +44,67 @@ fn new_session(n: TokenNo, v: VolumeNo, version: u32) -> Session
 }
 
 // From the volume's row on.
-fn open_volume(t: Tables, s: Session, n: TokenNo, v: Volume) -> SessionOutcome
-    ensures { λ r. ⌜ onSession t r ≡ openVolume t s n (hit 0 v) ⌝ }
+fn open_volume(s: Session, n: TokenNo, v: Volume) -> SessionOutcome
+    ensures { λ r. ⌜ ((t : Tables) → onSession t r ≡ openVolume t s n (hit 0 v)) ⌝ }
 {
     let status = v.status;
     if !is_active(status) {
-        return refuse(t, s, STATE);
+        return refuse(s, STATE);
     }
     let no = v.no;
-    accept(t, new_session(n, no, v.version))
+    accept(new_session(n, no, v.version))
 }
 
 // From the token's row on.
-fn open_token(t: Tables, s: Session, k: Token) -> SessionOutcome
-    ensures { λ r. ⌜ onSession t r ≡ openToken t s (hit 0 k) ⌝ }
+fn open_token(clock: u64, volumes: [Volume; 8], s: Session, k: Token) -> SessionOutcome
+    ensures { λ r. ⌜ ((t : Tables) → t .clock ≡ clock → t .volumes ≡ volumes → onSession t r ≡ openToken t s (hit 0 k)) ⌝ }
 {
     let scope = k.scope;
     let mode = scope.mode;
     let no = k.no;
     let volume = k.volume;
-    if !in_window(t.clock, scope) {
-        return refuse(t, s, WINDOW);
+    if !in_window(clock, scope) {
+        return refuse(s, WINDOW);
     }
     if !can_write(mode) {
-        return refuse(t, s, MODE);
+        return refuse(s, MODE);
     }
-    let rows = t.volumes;
-    let Found::At(i) = find_volume(rows, volume) else {
-        return refuse(t, s, STATE);
+    let Found::At(i) = find_volume(volumes, volume) else {
+        return refuse(s, STATE);
     };
-    let v = rows[i];
-    open_volume(t, s, no, v)
+    let v = volumes[i];
+    open_volume(s, no, v)
+}
+
+// A session begins in an idle slot, where these are the clock and the volumes, and `k` is the token's row, if it is there.
+pub fn open_row(
+    clock: u64,
+    volumes: [Volume; 8],
+    s: Session,
+    there: bool,
+    k: Token,
+) -> SessionOutcome
+    ensures { λ r. ⌜ ((t : Tables) (n : TokenNo) (i : ℕ) → t .clock ≡ clock → t .volumes ≡ volumes → tokenOf n t ≡ cond there (hit i k) miss → onSession t r ≡ openRule n t s) ⌝ }
+{
+    if s.token.0 != 0 {
+        return refuse(s, SESSION);
+    }
+    if !there {
+        return refuse(s, NO_TOKEN);
+    }
+    open_token(clock, volumes, s, k)
 }
 
 // A session begins in an idle slot, under a token.
 pub fn open_on(t: Tables, s: Session, n: TokenNo) -> SessionOutcome
     ensures { λ r. ⌜ onSession t r ≡ openRule n t s ⌝ }
 {
-    if s.token.0 != 0 {
-        return refuse(t, s, SESSION);
-    }
+    let volumes = t.volumes;
     let rows = t.tokens;
     let Found::At(i) = find_token(rows, n) else {
-        return refuse(t, s, NO_TOKEN);
+        let none = rules::fresh_token();
+        return open_row(t.clock, volumes, s, false, none);
     };
     let k = rows[i];
-    open_token(t, s, k)
+    open_row(t.clock, volumes, s, true, k)
 }

@@ -1,13 +1,14 @@
 // Stage.
 ghost use mathlib.Core.Path.{_≡_};
-ghost use mathlib.Core.Bool.{true, _&&_};
-ghost use Prim.Native.Nat.{_<_};
+ghost use mathlib.Core.Bool.{true, cond, _&&_};
+ghost use Prim.Native.Nat.{ℕ, _<_};
 ghost use lib.Dec.{leb};
 ghost use lib.ListN.{take};
-ghost use Rattle.lists.specs.Lists.{hit, find};
+ghost use Rattle.lists.specs.Lists.{hit, miss, find};
 ghost use Rattle.text.specs.Text.{pathLimit, isPath};
+ghost use Rattle.rules.specs.declared.Tables.{Tables};
 ghost use Rattle.rules.specs.Limits.{sizeLimit};
-ghost use Rattle.rules.specs.Tables.{isPut, staged};
+ghost use Rattle.rules.specs.Tables.{isPut, staged, tokenOf};
 ghost use Rattle.rules.specs.SessionCalls.{newPut, restaged, stagedNext, stageRule, stageToken, stagePut};
 ghost use Rattle.sessions.specs.Parts.{onSession};
 use super::SessionOutcome;
@@ -62,39 +63,32 @@ fn put_next(s: Session, p: Put) -> Session
 }
 
 // A path that is staged already keeps its place; another takes the next.
-fn stage_put(t: Tables, s: Session, p: Put, path: &[u8]) -> SessionOutcome
-    ensures { λ r. ⌜ onSession t r ≡ stagePut t s p (find (isPut (now (path .entry))) (staged s)) ⌝ }
+fn stage_put(s: Session, p: Put, path: &[u8]) -> SessionOutcome
+    ensures { λ r. ⌜ ((t : Tables) → onSession t r ≡ stagePut t s p (find (isPut (now (path .entry))) (staged s))) ⌝ }
 {
     let puts = s.puts;
     let count = s.count;
     let Found::At(j) = find_put(puts, count, path) else {
         if 8 <= count {
-            return refuse(t, s, ROOM);
+            return refuse(s, ROOM);
         }
-        return accept(t, put_next(s, p));
+        return accept(put_next(s, p));
     };
-    accept(t, put_again(s, j, p))
+    accept(put_again(s, j, p))
 }
 
 // From the token's row on.
-fn stage_token(
-    t: Tables,
-    s: Session,
-    k: Token,
-    path: &[u8],
-    size: u64,
-    hash: Hash,
-) -> SessionOutcome
+fn stage_token(s: Session, k: Token, path: &[u8], size: u64, hash: Hash) -> SessionOutcome
     requires { ⌜ isPath (now path) ≡ true ⌝ }
-    ensures { λ r. ⌜ onSession t r ≡ stageToken t s (now (path .entry)) size hash (hit 0 k) ⌝ }
+    ensures { λ r. ⌜ ((t : Tables) → onSession t r ≡ stageToken t s (now (path .entry)) size hash (hit 0 k)) ⌝ }
 {
     let scope = k.scope;
     let prefix = scope.prefix;
     if !text::covers(prefix, path) {
-        return refuse(t, s, PREFIX);
+        return refuse(s, PREFIX);
     }
     let p = make_put(path, size, hash);
-    stage_put(t, s, p, path)
+    stage_put(s, p, path)
 }
 
 // The path is one, and the size is within its limit.
@@ -107,21 +101,39 @@ fn stage_fits(path: &[u8], size: u64) -> bool
     size <= 68719476736
 }
 
+// A session stages an object, where `k` is the row of the session's token, if it is there.
+pub fn stage_row(
+    s: Session,
+    there: bool,
+    k: Token,
+    path: &[u8],
+    size: u64,
+    hash: Hash,
+) -> SessionOutcome
+    ensures { λ r. ⌜ ((t : Tables) (i : ℕ) → tokenOf (s .token) t ≡ cond there (hit i k) miss → onSession t r ≡ stageRule (now (path .entry)) size hash t s) ⌝ }
+{
+    if !stage_fits(path, size) {
+        return refuse(s, BAD);
+    }
+    if s.token.0 == 0 {
+        return refuse(s, SESSION);
+    }
+    if !there {
+        return refuse(s, NO_TOKEN);
+    }
+    stage_token(s, k, path, size, hash)
+}
+
 // A session stages an object; nothing is stored yet.
 pub fn stage_on(t: Tables, s: Session, path: &[u8], size: u64, hash: Hash) -> SessionOutcome
     ensures { λ r. ⌜ onSession t r ≡ stageRule (now (path .entry)) size hash t s ⌝ }
 {
-    if !stage_fits(path, size) {
-        return refuse(t, s, BAD);
-    }
     let n = s.token;
-    if n.0 == 0 {
-        return refuse(t, s, SESSION);
-    }
     let rows = t.tokens;
     let Found::At(i) = find_token(rows, n) else {
-        return refuse(t, s, NO_TOKEN);
+        let none = rules::fresh_token();
+        return stage_row(s, false, none, path, size, hash);
     };
     let k = rows[i];
-    stage_token(t, s, k, path, size, hash)
+    stage_row(s, true, k, path, size, hash)
 }

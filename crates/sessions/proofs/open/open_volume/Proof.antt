@@ -1,7 +1,7 @@
 -- `open_volume` meets its contract: each return is that of its check, and success holds the new session. Assumes nothing.
 use Rattle.rules.specs.SessionCalls.{openVolume}
 use Rattle.lists.specs.AnswerLaws.{checks}
-use Rattle.sessions.proofs.RowAnswers.{accepts-slot}
+use Rattle.sessions.proofs.RowAnswers.{refuses, accepts}
 use borrow.Author.Needs.{needs}
 use Rattle.sessions.proofs.open.open_volume.Statement.{statement}
 use Rattle.sessions.proofs.open.open_volume.Tie as tie
@@ -13,7 +13,7 @@ open-volume-spec =
     (tie.spec
     (λ c κs. search needs)
     (λ c κs. search needs)
-    (λ c. search checks)  -- STATE
+    (λ c t. search (checks, refuses))  -- STATE
     (λ c κs. search needs)
     (λ c κs. search needs)
-    (λ c. search (checks, accepts-slot)))  -- success
+    (λ c t. search (checks, accepts)))  -- success

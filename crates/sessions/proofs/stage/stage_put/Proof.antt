@@ -2,7 +2,7 @@
 use Rattle.rules.specs.SessionCalls.{stagePut}
 use Rattle.lists.specs.AnswerLaws.{checks, row-in-part}
 use Rattle.lists.specs.RowLaws.{rows-length}
-use Rattle.sessions.proofs.RowAnswers.{put-none, put-at, accepts-slot}
+use Rattle.sessions.proofs.RowAnswers.{refuses, accepts, put-none, put-at}
 use borrow.Author.Needs.{needs}
 use Rattle.sessions.proofs.stage.stage_put.Statement.{statement}
 use Rattle.sessions.proofs.stage.stage_put.Tie as tie
@@ -16,10 +16,10 @@ stage-put-spec =
     (λ c. search needs)
     (λ c. search needs)
     (λ c κs. search needs)
-    (λ c. search (checks, put-none))  -- ROOM
+    (λ c t. search (checks, put-none, refuses))  -- ROOM
     (λ c κs. search needs)
     (λ c κs. search needs)
-    (λ c. search (checks, put-none, accepts-slot))  -- in the next place
+    (λ c t. search (checks, put-none, accepts))  -- in the next place
     (λ c κs. search (row-in-part, rows-length, needs))
     (λ c κs. search needs)
-    (λ c. search (put-at, accepts-slot)))  -- in its old place
+    (λ c t. search (put-at, accepts)))  -- in its old place

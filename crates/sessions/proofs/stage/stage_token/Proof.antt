@@ -1,7 +1,7 @@
 -- `stage_token` meets its contract: each return is that of its check, and a path that is one is stored whole. Assumes nothing.
 use Rattle.rules.specs.SessionCalls.{stageToken}
 use Rattle.lists.specs.AnswerLaws.{checks}
-use Rattle.sessions.proofs.RowAnswers.{whole-path}
+use Rattle.sessions.proofs.RowAnswers.{refuses, whole-path}
 use borrow.Author.Needs.{needs}
 use Rattle.sessions.proofs.stage.stage_token.Statement.{statement}
 use Rattle.sessions.proofs.stage.stage_token.Tie as tie
@@ -13,7 +13,7 @@ stage-token-spec =
     (tie.spec
     (λ c κs. search needs)
     (λ c κs. search needs)
-    (λ c. search checks)  -- PREFIX
+    (λ c t. search (checks, refuses))  -- PREFIX
     (λ c κs. search needs)
     (λ c κs. search needs)
-    (λ c. search (checks, whole-path)))  -- then its place
+    (λ c t. search (checks, whole-path)))  -- then its place
