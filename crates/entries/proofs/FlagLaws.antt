@@ -5,7 +5,6 @@ use mathlib.Core.Bool.{Bool, true, false, not, _||_, or-false}
 use mathlib.Core.List.{List}
 use Prim.Native.Nat.{ℕ, _+_, _<_, _≤_}
 use native.Mathlib.Omega.{arith}
-use borrow.Author.Tests.{not-true, not-false}
 use lib.ListN.{length, drop, getD, take}
 use Rattle.lists.specs.Lists.{anyOf}
 use Rattle.lists.specs.TestLaws.{any-here, any-on, any-end}
@@ -34,18 +33,24 @@ module _ {A : Type 0} (p : A → Bool) (l : List A) (n : ℕ) where
     pub flag-end : n ≤ i → FlagLoop p l n i b → b ≡ anyOf p l
     flag-end k h = sym (or-false b) ∙ rw (any-end p l i (omega (arith, h .size))) at (h .rest)
 
+-- r is what was said of row i, and next whether a row up to it passed
+module _ {A : Type 0} (d : A) (p : A → Bool) (l : List A) (n i : ℕ) (b next r : Bool) (e : r ≡ p (getD l i d)) (k : i < n) (h : FlagLoop p l n i b) where
+  pub flag-passed : next ≡ true → r ≡ true → FlagLoop p l n (i + 1) next
+  flag-passed g t =
+      rw g (record { size = h .size; rest = part-holds b (anyOf p (drop i l)) (any-here p l d i (omega (arith, h .size)) e t) ∙ h .rest })
+
+  pub flag-failed : next ≡ b → r ≡ false → FlagLoop p l n (i + 1) next
+  flag-failed g t = rw g (record { size = h .size; rest = rw (any-on p l d i (omega (arith, h .size)) e t) at (h .rest) })
+
 -- the entries of a volume at a path: next says whether one was found up to row i
 module _ (v : VolumeNo) (path : List ℕ) (rows : List Entry) (i : ℕ) (b next : Bool) where
   pub flag-set : (r : Bool) → next ≡ true → r ≡ true → r ≡ isEntry v path (getD rows i blankEntry) → i < 64 → FlagLoop (isEntry v path) rows 64 i b
       → FlagLoop (isEntry v path) rows 64 (i + 1) next
-  flag-set r g t e k h =
-      let here = any-here (isEntry v path) rows blankEntry i (omega (arith, h .size)) e t in
-      rw g (record { size = h .size; rest = part-holds b (anyOf (isEntry v path) (drop i rows)) here ∙ h .rest })
+  flag-set r g t e k h = flag-passed blankEntry (isEntry v path) rows 64 i b next r e k h g t
 
   pub flag-kept : (r : Bool) → next ≡ b → r ≡ false → r ≡ isEntry v path (getD rows i blankEntry) → i < 64 → FlagLoop (isEntry v path) rows 64 i b
       → FlagLoop (isEntry v path) rows 64 (i + 1) next
-  flag-kept r g t e k h =
-      rw g (record { size = h .size; rest = rw (any-on (isEntry v path) rows blankEntry i (omega (arith, h .size)) e t) at (h .rest) })
+  flag-kept r g t e k h = flag-failed blankEntry (isEntry v path) rows 64 i b next r e k h g t
 
   pub flag-past : next ≡ b → (getD rows i blankEntry .volume .0 ≡ v .0 → ⊥) → i < 64 → FlagLoop (isEntry v path) rows 64 i b
       → FlagLoop (isEntry v path) rows 64 (i + 1) next

@@ -3,3 +3,4 @@ pub mod PathLaws
 pub mod RemoveLaws
 pub mod StoreLaws
 pub mod FlagLaws
+pub mod KeyLaws

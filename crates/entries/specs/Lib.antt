@@ -1,3 +1,4 @@
+pub mod Keys
 pub mod Marks
 pub mod MarkLaws
 pub mod Parts

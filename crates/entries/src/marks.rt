@@ -46,7 +46,7 @@ pub fn clear_marked(entries: [Entry; 64], marks: [bool; 64]) -> [Entry; 64]
 }
 
 // Whether a mark is set.
-fn any_mark(marks: &[bool]) -> bool
+pub fn any_mark(marks: &[bool]) -> bool
     ensures { λ r. ⌜ r ≡ anyOf isSet (now (marks .entry)) ⌝ }
 {
     let mut i: usize = 0;

@@ -6,6 +6,8 @@ ghost use Rattle.lists.specs.Lists.{countIf};
 ghost use Rattle.rules.specs.Tables.{usedEntry};
 ghost use Rattle.rules.specs.Commit.{isReplaced, isNewPath, entryFor, storeAll};
 ghost use Rattle.entries.specs.Stores.{rowFor};
+use super::keys::has_key;
+use super::keys::put_keys;
 use super::paths::entry_at;
 use super::paths::is_staged;
 use super::paths::text_len;
@@ -14,6 +16,7 @@ use lists::Found;
 use rows::free_entry;
 use rows::is_entry;
 use rows::is_number;
+use rows::path_key;
 use rows::put_count;
 use rules::Entry;
 use rules::Placement;
@@ -31,16 +34,22 @@ pub fn is_replaced(e: Entry, n: VolumeNo, puts: [Put; 8], count: usize) -> bool
     is_staged(puts, count, path)
 }
 
-// A mark for each entry: whether one of the first `count` puts replaces it. A row of another volume is not copied.
+// A mark for each entry: whether one of the first `count` puts replaces it. A row of another volume is not copied, and the puts are
+// searched only for a path whose number one of theirs has.
 pub fn mark_replaced(entries: [Entry; 64], n: VolumeNo, puts: [Put; 8], count: usize) -> [bool; 64]
     ensures { λ r. ⌜ r ≡ map (isReplaced n (take count puts)) entries ⌝ }
 {
+    let keys = put_keys(n, puts, count);
     let mut marks = [false; 64];
     let mut i: usize = 0;
     while i < 64 {
         if entries[i].volume.0 == n.0 {
             let e = entries[i];
-            marks[i] = is_replaced(e, n, puts, count);
+            let path = e.path;
+            let key = path_key(n.0, path);
+            if has_key(&keys, key) {
+                marks[i] = is_replaced(e, n, puts, count);
+            }
         }
         i += 1;
     }
