@@ -4,3 +4,5 @@ pub mod RemoveLaws
 pub mod StoreLaws
 pub mod FlagLaws
 pub mod KeyLaws
+pub mod DownLaws
+pub mod UnmarkedLaws

@@ -16,10 +16,8 @@ use Rattle.lists.specs.SearchLaws.{first-index, first-miss, miss-none, none-mis
 use Rattle.text.specs.declared.Text.{Text}
 use Rattle.text.specs.Text.{pathLimit, textBytes, toText}
 use Rattle.text.specs.TextLaws.{part-within, part-length, part-bytes}
-use Rattle.rules.specs.declared.VolumeNo.{VolumeNo}
-use Rattle.rules.specs.declared.Entry.{Entry}
 use Rattle.rules.specs.declared.Put.{Put}
-use Rattle.rules.specs.Tables.{isEntry, isPut}
+use Rattle.rules.specs.Tables.{isPut}
 
 -- a text has its array's length or less
 module _ (t : Text) (e : length (t .bytes) ≡ pathLimit) where
@@ -48,10 +46,6 @@ module _ (t : Text) (n : ℕ) (e : n ≡ length (textBytes t)) where
   pub anew : (r : Text) → length (t .bytes) ≡ pathLimit → r ≡ toText (take pathLimit (take n (t .bytes))) → r ≡ toText (textBytes t)
   anew r h q = q ∙ rw (part-bytes t n e, take-all pathLimit (textBytes t) (text-fits t h))
 
-  pub entry-part : (v : VolumeNo) (rows : List Entry) (f : Found) → f ≡ firstAt (isEntry v (take n (t .bytes))) 0 rows
-      → f ≡ firstAt (isEntry v (textBytes t)) 0 rows
-  entry-part v rows f q = rw (← part-bytes t n e) q
-
   module _ (puts : List Put) (f : Found) (q : f ≡ firstAt (isPut (take n (t .bytes))) 0 puts) where
     put-part : f ≡ firstAt (isPut (textBytes t)) 0 puts
     put-part = rw (← part-bytes t n e) q
@@ -64,4 +58,4 @@ module _ (t : Text) (n : ℕ) (e : n ≡ length (textBytes t)) where
 
 pub ruleset lens = (len-within, len-whole, needs)
 
-pub ruleset lent-paths = (part-within, part-length, anew, entry-part, put-there, put-missing, needs)
+pub ruleset lent-paths = (part-within, part-length, anew, put-there, put-missing, needs)

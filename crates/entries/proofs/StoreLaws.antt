@@ -1,77 +1,61 @@
--- Puts stored one after another: the row that a put is stored in, and the loop over the puts. Assumes nothing.
-use mathlib.Core.Path.{_≡_, refl, sym, _∙_}
-use mathlib.Core.Bool.{Bool, true}
+-- Puts stored one after another: the row that a put is stored in, the loop over the rows that finds it, and the loop over the puts. Assumes nothing.
+use mathlib.Core.Path.{_≡_, refl, sym, _∙_, ap}
+use mathlib.Core.Bool.{Bool, true, false, cond}
+use mathlib.Core.Logic.{⊎-elim}
 use mathlib.Core.List.{List, []}
-use Prim.Native.Nat.{ℕ, _+_, _*_, _^_, _<_, _≤_}
-use native.Mathlib.Nat.{mul-le-mul-right}
+use Prim.Native.Nat.{ℕ, _+_, _-_, _<_, _≤_}
 use native.Mathlib.Numerals.{add-one}
 use native.Mathlib.Omega.{arith}
-use mir.Val.{Fits}
-use mir.Syntax.{w64}
-use borrow.Author.Tests.{ltb-true}
-use lib.Dec.{ltb}
+use borrow.Author.Tests.{eqb-true, eqb-false}
+use lib.Dec.{eqb}
 use lib.ListN.{length, drop, getD, set, take, length-set, length-take, drop-of-length-le}
-use lib.Seq.{drop-cons, getD-take}
-use Rattle.lists.specs.declared.Found.{Found}
-use Rattle.lists.specs.declared.Found.the-variants.{At, Nothing}
+use lib.Seq.{drop-cons, getD-take, set-out}
 use Rattle.lists.specs.Lists.{Hit, miss, hit, find, firstAt}
+use Rattle.lists.specs.BoolLaws.{pass-or-fail}
 use Rattle.lists.specs.LoopLaws.{sizes}
-use Rattle.lists.specs.SearchLaws.{indexOf, first-index, first-below}
+use Rattle.lists.specs.SearchLaws.{indexOf, first-index, found-below}
 use Rattle.text.specs.Text.{textBytes}
+use Rattle.text.specs.TextLaws.{part-bytes}
 use Rattle.rules.specs.declared.VolumeNo.{VolumeNo}
 use Rattle.rules.specs.declared.Placement.{Placement}
 use Rattle.rules.specs.declared.Entry.{Entry}
 use Rattle.rules.specs.declared.Put.{Put}
 use Rattle.rules.specs.Tables.{freeEntry, isEntry}
 use Rattle.rules.specs.Commit.{entryFor, storeNew, storeAt, storeAll}
-use Rattle.rows.specs.Blank.{blankPut}
-use Rattle.entries.specs.Stores.{orFree, rowFor}
+use Rattle.rows.specs.Blank.{blankEntry, blankPut}
+use Rattle.entries.proofs.DownLaws.{indexOr, DownLoop, down-start, down-end, down-passed, down-failed}
+use Rattle.entries.proofs.UnmarkedLaws.{Unmarked, unmarked-start, not-there}
 
--- the row of a put
-module _ (n : VolumeNo) (p : Put) (es : List Entry) (f : Found) (e : f ≡ firstAt (isEntry n (textBytes (p .path))) 0 es) where
-  pub row-same : (i : ℕ) → f ≡ At i → At i ≡ rowFor n p es
-  unfolding rowFor
-  row-same i w = sym (rw (sym e ∙ w))
+-- an entry stored: row is the row of its path, free the lowest free row, 64 where there is none
+module _ (es : List Entry) (size : length es ≡ 64) (e : Entry) where
+  store-new : (free : ℕ) (h : Hit Entry) → free ≡ indexOr 64 (indexOf h) → storeNew es e h ≡ set es free e
+  unfolding storeNew
+  store-new free miss q = sym (set-out es free e (omega (arith, q)))
+  store-new free (hit i x) q = sym (ap (λ (k : ℕ). set es k e) q)
 
-  pub row-free : (r : Found) → f ≡ Nothing → r ≡ firstAt freeEntry 0 es → r ≡ rowFor n p es
-  unfolding rowFor
-  row-free r w q = q ∙ sym (rw (sym e ∙ w))
+  module _ (p : Entry → Bool) (row : ℕ) (q : row ≡ indexOr 64 (firstAt p 0 es)) where
+    found : row ≡ indexOr 64 (indexOf (find p es))
+    found = rw (first-index p 0 es) at q
 
--- an entry stored in the row that was found
-abbrev storeIn : List Entry → Entry → Found → List Entry
-storeIn es e Nothing = es
-storeIn es e (At i) = set es i e
+    stored-same : (row ≡ 64 → ⊥) → storeAt es e (find p es) ≡ set es row e
+    unfolding storeAt
+    stored-same other = go (find p es) found
+      where
+        go : (h : Hit Entry) → row ≡ indexOr 64 (indexOf h) → storeAt es e h ≡ set es row e
+        go miss z = absurd (other z)
+        go (hit i x) z = sym (ap (λ (k : ℕ). set es k e) z)
 
-store-free : (es : List Entry) (e : Entry) (h : Hit Entry) → storeNew es e h ≡ storeIn es e (indexOf h)
-unfolding storeNew
-store-free es e miss = refl
-store-free es e (hit i x) = refl
+    stored-free : row ≡ 64 → (free : ℕ) → free ≡ indexOr 64 (firstAt freeEntry 0 es) → storeAt es e (find p es) ≡ set es free e
+    unfolding storeAt
+    stored-free none free f = go (find p es) refl found
+      where
+        go : (h : Hit Entry) → find p es ≡ h → row ≡ indexOr 64 (indexOf h) → storeAt es e h ≡ set es free e
+        go miss w z = store-new free (find freeEntry es) (rw (first-index freeEntry 0 es) at f)
+        go (hit i x) w z = absurd (omega (arith, found-below p es i x w, size, none, z))
 
-store-row : (es : List Entry) (e : Entry) (h : Hit Entry) → storeAt es e h ≡ storeIn es e (orFree es (indexOf h))
-unfolding storeAt
-store-row es e miss = rw (first-index freeEntry 0 es) (store-free es e (find freeEntry es))
-store-row es e (hit i x) = refl
-
-row-below : (es : List Entry) (p : Entry → Bool) (f : Found) (j : ℕ) → firstAt p 0 es ≡ f → orFree es f ≡ At j → j < length es
-row-below es p Nothing j e w = omega (arith, first-below freeEntry es 0 j w)
-row-below es p (At i) j e w = omega (arith, first-below p es 0 j (e ∙ w))
-
-module _ (n : VolumeNo) (p : Put) (es : List Entry) where
-  -- what a put does to the entries
-  pub store-at : (e : Entry) → storeAt es e (find (isEntry n (textBytes (p .path))) es) ≡ storeIn es e (rowFor n p es)
-  unfolding rowFor
-  store-at e =
-      let path = isEntry n (textBytes (p .path)) in
-      store-row es e (find path es) ∙ sym (rw (first-index path 0 es))
-
-  module _ (f : Found) (j : ℕ) (e : f ≡ rowFor n p es) (w : f ≡ At j) (h : length es ≡ 64) where
-    -- the row lies in the table, and its place in memory is a number of the machine
-    pub store-in : j < 64
-    unfolding rowFor
-    store-in = omega (arith, h, row-below es (isEntry n (textBytes (p .path))) _ j refl (sym e ∙ w))
-
-    pub store-fits : (k : ℕ) → ltb (64 * k) (2 ^ 64) ≡ true → Fits w64 (j * k)
-    store-fits k q = record { fits = omega (arith, mul-le-mul-right k store-in, ltb-true (64 * k) (2 ^ 64) q) }
+-- the row that takes a put: none does where it is past the end
+pub record RowFor (n : VolumeNo) (p : Put) (es : List Entry) (row : ℕ) : Type 0 where
+  pub stored : (e : Entry) → storeAt es e (find (isEntry n (textBytes (p .path))) es) ≡ set es row e
 
 -- a placement past the end
 abbrev blankPlacement : Placement
@@ -98,7 +82,8 @@ module _ (n : VolumeNo) (ps : List Put) (places : List Placement) (es₀ : List 
 
     -- p is put i, with its placement q
     step : (p : Put) (q : Placement) → i < m → p ≡ getD ps i blankPut → q ≡ getD places i blankPlacement
-        → storeAll n ps places es₀ ≡ storeAll n (drop (i + 1) ps) (drop (i + 1) places) (storeIn es (entryFor n p q) (rowFor n p es))
+        → storeAll n ps places es₀
+        ≡ storeAll n (drop (i + 1) ps) (drop (i + 1) places) (storeAt es (entryFor n p q) (find (isEntry n (textBytes (p .path))) es))
     unfolding storeAll
     step p q k a b =
         h .rest
@@ -108,31 +93,107 @@ module _ (n : VolumeNo) (ps : List Put) (places : List Placement) (es₀ : List 
           ← a,
           ← b,
           ← add-one i,
-          ← store-at n p es (entryFor n p q),
         )
 
--- f is the row that was found for put i, and next the entries after it
+-- row is the row that takes put i, and next the entries after it
 module _ (n : VolumeNo) (puts : List Put) (places : List Placement) (es₀ : List Entry) (k m i : ℕ) (es : List Entry)
-    (h : StoreLoop n (take k puts) (take k places) es₀ m i es) (w : i < m) (f : Found) (e : f ≡ rowFor n (getD puts i blankPut) es) (next : List Entry) where
+    (h : StoreLoop n (take k puts) (take k places) es₀ m i es) (w : i < m) (row : ℕ) (takes : RowFor n (getD puts i blankPut) es row) (next : List Entry) where
   within : i < k
   within = omega (arith, length-take k puts, h .puts)
 
   stored : storeAll n (take k puts) (take k places) es₀
-      ≡ storeAll n (drop (i + 1) (take k puts)) (drop (i + 1) (take k places)) (storeIn es (entryFor n (getD puts i blankPut) (getD places i blankPlacement)) f)
+      ≡ storeAll n (drop (i + 1) (take k puts)) (drop (i + 1) (take k places)) (set es row (entryFor n (getD puts i blankPut) (getD places i blankPlacement)))
   stored =
       let a = getD-take k puts i blankPut within in
       let b = getD-take k places i blankPlacement within in
-      rw e (step n (take k puts) (take k places) es₀ m i es h _ _ w (sym a) (sym b))
+      rw (takes .stored _) at (step n (take k puts) (take k places) es₀ m i es h _ _ w (sym a) (sym b))
 
-  pub store-none : f ≡ Nothing → next ≡ es → StoreLoop n (take k puts) (take k places) es₀ m (i + 1) next
-  store-none none z = rw z (record { puts = h .puts; placements = h .placements; size = h .size; rest = rw none at stored })
+  pub store-none : next ≡ es → 64 ≤ row → StoreLoop n (take k puts) (take k places) es₀ m (i + 1) next
+  store-none z none =
+      let same = set-out es row (entryFor n (getD puts i blankPut) (getD places i blankPlacement)) (omega (arith, h .size)) in
+      rw z (record { puts = h .puts; placements = h .placements; size = h .size; rest = rw same at stored })
 
-  pub store-put : (j : ℕ) (x : Entry) → f ≡ At j → x ≡ entryFor n (getD puts i blankPut) (getD places i blankPlacement) → next ≡ set es j x
+  pub store-put : (x : Entry) → next ≡ set es row x → x ≡ entryFor n (getD puts i blankPut) (getD places i blankPlacement)
       → StoreLoop n (take k puts) (take k places) es₀ m (i + 1) next
-  store-put j x here made z =
+  store-put x z made =
       rw (z, made)
-      (record { puts = h .puts; placements = h .placements; size = length-set es j _ ∙ h .size; rest = rw here at stored })
+      (record { puts = h .puts; placements = h .placements; size = length-set es row _ ∙ h .size; rest = stored })
 
-pub ruleset rows-of = (row-same, row-free)
+-- the loop with the marks of the rows that may have a put's path
+pub record PutLoop (n : VolumeNo) (ps : List Put) (places : List Placement) (es₀ : List Entry) (m i : ℕ) (marks : List Bool) (es : List Entry) : Type 0 where
+  pub left : StoreLoop n ps places es₀ m i es
+  pub unmarked : Unmarked n ps marks es
 
-pub ruleset stores = (store-put, store-none, store-end, store-size, store-start, store-in, store-fits, sizes)
+-- the loop over the rows for one put, at row j
+pub record RowLoop (n : VolumeNo) (path : List ℕ) (marks : List Bool) (es : List Entry) (j row free : ℕ) : Type 0 where
+  pub size : length marks ≡ 64
+  pub none : (x : ℕ) → x < 64 → getD marks x false ≡ false → isEntry n path (getD es x blankEntry) ≡ false
+  pub same : DownLoop (isEntry n path) es 64 j row
+  pub lowest : DownLoop freeEntry es 64 j free
+
+module _ (n : VolumeNo) (path : List ℕ) (marks : List Bool) (es : List Entry) (j row free : ℕ) (h : RowLoop n path marks es j row free) where
+  pub row-turn : (row′ free′ : ℕ) → DownLoop (isEntry n path) es 64 (j - 1) row′ → DownLoop freeEntry es 64 (j - 1) free′
+      → RowLoop n path marks es (j - 1) row′ free′
+  row-turn row′ free′ a b = record { size = h .size; none = h .none; same = a; lowest = b }
+
+  pub rows-size : length es ≡ 64
+  rows-size = h .same .size
+
+  pub marks-size : length marks ≡ 64
+  marks-size = h .size
+
+  -- next is the row that was found with the row before j
+  module _ (next : ℕ) (k : 0 < j) where
+    pub same-here : (r : Bool) → r ≡ true → next ≡ j - 1 → r ≡ isEntry n path (getD es (j - 1) blankEntry) → DownLoop (isEntry n path) es 64 (j - 1) next
+    same-here r t q e = down-passed (isEntry n path) es 64 blankEntry j row next r (h .same) k e t q
+
+    pub same-past : (r : Bool) → r ≡ false → next ≡ row → r ≡ isEntry n path (getD es (j - 1) blankEntry) → DownLoop (isEntry n path) es 64 (j - 1) next
+    same-past r t q e = down-failed (isEntry n path) es 64 blankEntry j row next r (h .same) k e t q
+
+    pub same-unread : getD marks (j - 1) false ≡ false → next ≡ row → DownLoop (isEntry n path) es 64 (j - 1) next
+    same-unread f q =
+        let e = h .none (j - 1) (omega (arith, h .same .place)) f in
+        down-failed (isEntry n path) es 64 blankEntry j row next false (h .same) k (sym e) refl q
+
+    pub free-turn : next ≡ cond (eqb (getD es (j - 1) blankEntry .volume .0) 0) (j - 1) free → DownLoop freeEntry es 64 (j - 1) next
+    free-turn q =
+        ⊎-elim
+        (λ t. down-passed freeEntry es 64 blankEntry j free next (freeEntry (getD es (j - 1) blankEntry)) (h .lowest) k refl t (rw t at q))
+        (λ t. down-failed freeEntry es 64 blankEntry j free next (freeEntry (getD es (j - 1) blankEntry)) (h .lowest) k refl t (rw t at q))
+        (pass-or-fail (freeEntry (getD es (j - 1) blankEntry)))
+
+-- of put i, of whose path len bytes were lent
+module _ (n : VolumeNo) (puts : List Put) (es : List Entry) (marks : List Bool) (i len : ℕ) (size : len ≡ length (textBytes (getD puts i blankPut .path))) where
+  pub row-start : (c m : ℕ) (places : List Placement) (es₀ : List Entry) → PutLoop n (take c puts) (take c places) es₀ m i marks es → i < m
+      → RowLoop n (take len (getD puts i blankPut .path .bytes)) marks es 64 64 64
+  row-start c m places es₀ h k =
+      rw (part-bytes (getD puts i blankPut .path) len size)
+      (record {
+        size = h .unmarked .size;
+        none = λ x w f. not-there n puts c m i x marks es (h .unmarked) (h .left .puts) k w f;
+        same = down-start (isEntry n (textBytes (getD puts i blankPut .path))) es 64 (h .left .size);
+        lowest = down-start freeEntry es 64 (h .left .size);
+      })
+
+  -- next is the row that takes the put
+  module _ (j row free next : ℕ) (h : RowLoop n (take len (getD puts i blankPut .path .bytes)) marks es j row free) (k : j ≤ 0) where
+    at-path : row ≡ indexOr 64 (firstAt (isEntry n (textBytes (getD puts i blankPut .path))) 0 es)
+    at-path = rw (part-bytes (getD puts i blankPut .path) len size) at (down-end (isEntry n (take len (getD puts i blankPut .path .bytes))) es 64 j row (h .same) k)
+
+    pub takes-row : next ≡ cond (eqb row 64) free row → RowFor n (getD puts i blankPut) es next
+    takes-row q =
+        let path = isEntry n (textBytes (getD puts i blankPut .path)) in
+        record {
+          stored = λ x.
+              ⊎-elim
+              (λ t.
+              rw (rw t at q)
+              (stored-free es (h .same .size) x path row at-path (eqb-true row 64 t) free (down-end freeEntry es 64 j free (h .lowest) k)))
+              (λ t. rw (rw t at q) (stored-same es (h .same .size) x path row at-path (eqb-false row 64 t)))
+              (pass-or-fail (eqb row 64));
+        }
+
+pub ruleset stores = (store-end, store-size, store-start, unmarked-start, sizes)
+
+-- the loop over the rows
+pub ruleset turns = (row-turn, same-here, same-past, same-unread, free-turn)

@@ -2,4 +2,3 @@ pub mod Keys
 pub mod Marks
 pub mod MarkLaws
 pub mod Parts
-pub mod Stores

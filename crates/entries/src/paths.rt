@@ -1,15 +1,12 @@
 // Rows by a path that is a text, of an entry or of a put.
 ghost use mathlib.Core.Path.{_≡_};
 ghost use lib.ListN.{length, take};
-ghost use Rattle.lists.specs.Lists.{firstAt, anyOf};
+ghost use Rattle.lists.specs.Lists.{anyOf};
 ghost use Rattle.text.specs.Text.{textBytes, toText};
-ghost use Rattle.rules.specs.Tables.{isEntry, isPut};
+ghost use Rattle.rules.specs.Tables.{isPut};
 use lists::Found;
-use rows::find_entry;
 use rows::find_put;
-use rules::Entry;
 use rules::Put;
-use rules::VolumeNo;
 use text::PATH_LIMIT;
 use text::Text;
 
@@ -31,15 +28,6 @@ pub(crate) fn write_anew(t: Text) -> Text
     let n = text_len(t);
     let b = t.bytes;
     text::to_text(&b[..n])
-}
-
-// The row of the volume's entry at the path.
-pub(crate) fn entry_at(entries: [Entry; 64], n: VolumeNo, path: Text) -> Found
-    ensures { λ r. ⌜ r ≡ firstAt (isEntry n (textBytes path)) 0 entries ⌝ }
-{
-    let k = text_len(path);
-    let b = path.bytes;
-    find_entry(entries, n, &b[..k])
 }
 
 // Whether one of the first `count` puts is staged at the path.

@@ -1,19 +1,17 @@
 // What a commit does to the entry table: which entries its puts replace, how many rows they need, and the table with all of them stored.
 ghost use mathlib.Core.Path.{_≡_};
+ghost use mathlib.Core.Bool.{cond};
 ghost use mathlib.Core.List.{map};
+ghost use lib.Dec.{eqb};
 ghost use lib.ListN.{take};
 ghost use Rattle.lists.specs.Lists.{countIf};
 ghost use Rattle.rules.specs.Tables.{usedEntry};
 ghost use Rattle.rules.specs.Commit.{isReplaced, isNewPath, entryFor, storeAll};
-ghost use Rattle.entries.specs.Stores.{rowFor};
 use super::keys::has_key;
 use super::keys::put_keys;
-use super::paths::entry_at;
 use super::paths::is_staged;
 use super::paths::text_len;
 use super::paths::write_anew;
-use lists::Found;
-use rows::free_entry;
 use rows::is_entry;
 use rows::is_number;
 use rows::path_key;
@@ -119,18 +117,23 @@ fn entry_for(n: VolumeNo, p: Put, place: Placement) -> Entry
     }
 }
 
-// The row that a put is stored in.
-fn row_for(entries: [Entry; 64], n: VolumeNo, p: Put) -> Found
-    ensures { λ r. ⌜ r ≡ rowFor n p entries ⌝ }
+// The row j where it is free, as the number of its volume says, else the free row that was found before.
+fn lower_free(volume: u32, j: usize, free: usize) -> usize
+    ensures { λ r. ⌜ r ≡ cond (eqb volume 0) j free ⌝ }
 {
-    let path = p.path;
-    let Found::At(i) = entry_at(entries, n, path) else {
-        return free_entry(entries);
-    };
-    Found::At(i)
+    if volume == 0 { j } else { free }
 }
 
-// The entries after the first `count` puts are stored in staging order, each with the placement of its index.
+// The row that was found, else the free one: 64 stands for none.
+fn found_or(row: usize, free: usize) -> usize
+    ensures { λ r. ⌜ r ≡ cond (eqb row 64) free row ⌝ }
+{
+    if row == 64 { free } else { row }
+}
+
+// The entries after the first `count` puts are stored in staging order, each with the placement of its index: in the row of its path,
+// else in the lowest free row. A row without a mark has none of their paths and is not compared. The rows are searched here, from the
+// last to the first, and by no function of its own, which would copy them for each put.
 pub fn store_all(
     entries: [Entry; 64],
     n: VolumeNo,
@@ -140,14 +143,33 @@ pub fn store_all(
 ) -> [Entry; 64]
     ensures { λ r. ⌜ r ≡ storeAll n (take count puts) (take count places) entries ⌝ }
 {
+    let mut marks = mark_replaced(entries, n, puts, count);
     let m = put_count(count);
     let mut out = entries;
     let mut i: usize = 0;
     while i < m {
         let p = puts[i];
         let place = places[i];
-        if let Found::At(j) = row_for(out, n, p) {
-            out[j] = entry_for(n, p, place);
+        let path = p.path;
+        let k = text_len(path);
+        let b = path.bytes;
+        let mut row: usize = 64;
+        let mut free: usize = 64;
+        let mut j: usize = 64;
+        while 0 < j {
+            j -= 1;
+            free = lower_free(out[j].volume.0, j, free);
+            if marks[j] {
+                let e = out[j];
+                if is_entry(e, n, &b[..k]) {
+                    row = j;
+                }
+            }
+        }
+        let to = found_or(row, free);
+        if to < 64 {
+            out[to] = entry_for(n, p, place);
+            marks[to] = true;
         }
         i += 1;
     }
