@@ -2,7 +2,7 @@
 -- put, whether its path is new. Assumes nothing.
 use mathlib.Core.Path.{_≡_, refl, sym, _∙_}
 use mathlib.Core.Bool.{Bool, true, false, not, _||_, or-false}
-use mathlib.Core.List.{List}
+use mathlib.Core.List.{List, map}
 use Prim.Native.Nat.{ℕ, _+_, _<_, _≤_}
 use native.Mathlib.Omega.{arith}
 use lib.ListN.{length, drop, getD, take}
@@ -15,10 +15,10 @@ use Rattle.rules.specs.declared.VolumeNo.{VolumeNo}
 use Rattle.rules.specs.declared.Entry.{Entry}
 use Rattle.rules.specs.declared.Put.{Put}
 use Rattle.rules.specs.Tables.{isEntry}
-use Rattle.rules.specs.Commit.{isNewPath}
+use Rattle.rules.specs.Commit.{isReplaced, isNewPath}
 use Rattle.rows.specs.Blank.{blankEntry, blankPut}
-use Rattle.rows.specs.EntryLaws.{not-entry}
 use Rattle.entries.proofs.CountLaws.{CountLoop, count-adds-part, count-skips-part}
+use Rattle.entries.proofs.UnmarkedLaws.{PathMarks, unmarked-start, path-marks}
 
 -- a row before i passed, or one from i on does: what all rows come to
 pub record FlagLoop {A : Type 0} (p : A → Bool) (l : List A) (n i : ℕ) (b : Bool) : Type 0 where
@@ -42,27 +42,42 @@ module _ {A : Type 0} (d : A) (p : A → Bool) (l : List A) (n i : ℕ) (b next 
   pub flag-failed : next ≡ b → r ≡ false → FlagLoop p l n (i + 1) next
   flag-failed g t = rw g (record { size = h .size; rest = rw (any-on p l d i (omega (arith, h .size)) e t) at (h .rest) })
 
--- the entries of a volume at a path: next says whether one was found up to row i
-module _ (v : VolumeNo) (path : List ℕ) (rows : List Entry) (i : ℕ) (b next : Bool) where
-  pub flag-set : (r : Bool) → next ≡ true → r ≡ true → r ≡ isEntry v path (getD rows i blankEntry) → i < 64 → FlagLoop (isEntry v path) rows 64 i b
-      → FlagLoop (isEntry v path) rows 64 (i + 1) next
-  flag-set r g t e k h = flag-passed blankEntry (isEntry v path) rows 64 i b next r e k h g t
+-- the loop over the entries of a volume at a path: a row without a mark has not this path
+pub record SeekLoop (v : VolumeNo) (path : List ℕ) (marks : List Bool) (es : List Entry) (j : ℕ) (b : Bool) : Type 0 where
+  pub unread : PathMarks v path marks es
+  pub seen : FlagLoop (isEntry v path) es 64 j b
 
-  pub flag-kept : (r : Bool) → next ≡ b → r ≡ false → r ≡ isEntry v path (getD rows i blankEntry) → i < 64 → FlagLoop (isEntry v path) rows 64 i b
-      → FlagLoop (isEntry v path) rows 64 (i + 1) next
-  flag-kept r g t e k h = flag-failed blankEntry (isEntry v path) rows 64 i b next r e k h g t
+-- of the path of put i, of which len bytes were lent
+pub seek-start : (v : VolumeNo) (es : List Entry) (puts : List Put) (count m i sum len : ℕ) (marks : List Bool) → CountLoop (isNewPath v es) (take count puts) m i sum
+    → i < m → marks ≡ map (isReplaced v (take count puts)) es → length es ≡ 64 → len ≡ length (textBytes (getD puts i blankPut .path))
+    → SeekLoop v (take len (getD puts i blankPut .path .bytes)) marks es 0 false
+seek-start v es puts count m i sum len marks c k e q size =
+    record {
+      unread = path-marks v puts count m i len marks es (unmarked-start v (take count puts) marks es e q) (c .size) k size;
+      seen = flag-start (isEntry v (take len (getD puts i blankPut .path .bytes))) es 64 q;
+    }
 
-  pub flag-past : next ≡ b → (getD rows i blankEntry .volume .0 ≡ v .0 → ⊥) → i < 64 → FlagLoop (isEntry v path) rows 64 i b
-      → FlagLoop (isEntry v path) rows 64 (i + 1) next
-  flag-past g w = flag-kept false g refl (sym (not-entry v path (getD rows i blankEntry) w))
+-- next says whether an entry was found up to row j
+module _ (v : VolumeNo) (path : List ℕ) (marks : List Bool) (es : List Entry) (j : ℕ) (b next : Bool) (h : SeekLoop v path marks es j b) (k : j < 64) where
+  pub seek-found : (r : Bool) → next ≡ true → r ≡ true → r ≡ isEntry v path (getD es j blankEntry) → SeekLoop v path marks es (j + 1) next
+  seek-found r g t e = record { unread = h .unread; seen = flag-passed blankEntry (isEntry v path) es 64 j b next r e k (h .seen) g t }
+
+  pub seek-past : (r : Bool) → next ≡ b → r ≡ false → r ≡ isEntry v path (getD es j blankEntry) → SeekLoop v path marks es (j + 1) next
+  seek-past r g t e = record { unread = h .unread; seen = flag-failed blankEntry (isEntry v path) es 64 j b next r e k (h .seen) g t }
+
+  pub seek-unread : next ≡ b → getD marks j false ≡ false → SeekLoop v path marks es (j + 1) next
+  seek-unread g f = seek-past false g refl (sym (h .unread .none j k f))
+
+  pub seek-size : length marks ≡ 64
+  seek-size = h .unread .size
 
 -- the count of the new paths after put i, of whose path len bytes were lent: b says whether an entry has it
 module _ (v : VolumeNo) (es : List Entry) (puts : List Put) (count m i sum s len j : ℕ) (b : Bool)
     (size : len ≡ length (textBytes (getD puts i blankPut .path))) (k : 64 ≤ j)
-    (h : FlagLoop (isEntry v (take len (getD puts i blankPut .path .bytes))) es 64 j b) where
+    (marks : List Bool) (h : SeekLoop v (take len (getD puts i blankPut .path .bytes)) marks es j b) where
   new-path : not b ≡ isNewPath v es (getD puts i blankPut)
   unfolding isNewPath
-  new-path = rw (← part-bytes (getD puts i blankPut .path) len size, ← flag-end _ es 64 j b k h)
+  new-path = rw (← part-bytes (getD puts i blankPut .path) len size, ← flag-end _ es 64 j b k (h .seen))
 
   module _ (low : i < m) (c : CountLoop (isNewPath v es) (take count puts) m i sum) where
     pub new-counted : not b ≡ true → s ≡ sum + 1 → CountLoop (isNewPath v es) (take count puts) m (i + 1) s

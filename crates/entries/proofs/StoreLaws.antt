@@ -24,7 +24,7 @@ use Rattle.rules.specs.Tables.{freeEntry, isEntry}
 use Rattle.rules.specs.Commit.{entryFor, storeNew, storeAt, storeAll}
 use Rattle.rows.specs.Blank.{blankEntry, blankPut}
 use Rattle.entries.proofs.DownLaws.{indexOr, DownLoop, down-start, down-end, down-passed, down-failed}
-use Rattle.entries.proofs.UnmarkedLaws.{Unmarked, unmarked-start, not-there}
+use Rattle.entries.proofs.UnmarkedLaws.{Unmarked, PathMarks, unmarked-start, path-marks}
 
 -- an entry stored: row is the row of its path, free the lowest free row, 64 where there is none
 module _ (es : List Entry) (size : length es ≡ 64) (e : Entry) where
@@ -126,21 +126,20 @@ pub record PutLoop (n : VolumeNo) (ps : List Put) (places : List Placement) (es�
 
 -- the loop over the rows for one put, at row j
 pub record RowLoop (n : VolumeNo) (path : List ℕ) (marks : List Bool) (es : List Entry) (j row free : ℕ) : Type 0 where
-  pub size : length marks ≡ 64
-  pub none : (x : ℕ) → x < 64 → getD marks x false ≡ false → isEntry n path (getD es x blankEntry) ≡ false
+  pub unread : PathMarks n path marks es
   pub same : DownLoop (isEntry n path) es 64 j row
   pub lowest : DownLoop freeEntry es 64 j free
 
 module _ (n : VolumeNo) (path : List ℕ) (marks : List Bool) (es : List Entry) (j row free : ℕ) (h : RowLoop n path marks es j row free) where
   pub row-turn : (row′ free′ : ℕ) → DownLoop (isEntry n path) es 64 (j - 1) row′ → DownLoop freeEntry es 64 (j - 1) free′
       → RowLoop n path marks es (j - 1) row′ free′
-  row-turn row′ free′ a b = record { size = h .size; none = h .none; same = a; lowest = b }
+  row-turn row′ free′ a b = record { unread = h .unread; same = a; lowest = b }
 
   pub rows-size : length es ≡ 64
   rows-size = h .same .size
 
   pub marks-size : length marks ≡ 64
-  marks-size = h .size
+  marks-size = h .unread .size
 
   -- next is the row that was found with the row before j
   module _ (next : ℕ) (k : 0 < j) where
@@ -152,7 +151,7 @@ module _ (n : VolumeNo) (path : List ℕ) (marks : List Bool) (es : List Entry) 
 
     pub same-unread : getD marks (j - 1) false ≡ false → next ≡ row → DownLoop (isEntry n path) es 64 (j - 1) next
     same-unread f q =
-        let e = h .none (j - 1) (omega (arith, h .same .place)) f in
+        let e = h .unread .none (j - 1) (omega (arith, h .same .place)) f in
         down-failed (isEntry n path) es 64 blankEntry j row next false (h .same) k (sym e) refl q
 
     pub free-turn : next ≡ cond (eqb (getD es (j - 1) blankEntry .volume .0) 0) (j - 1) free → DownLoop freeEntry es 64 (j - 1) next
@@ -167,13 +166,12 @@ module _ (n : VolumeNo) (puts : List Put) (es : List Entry) (marks : List Bool) 
   pub row-start : (c m : ℕ) (places : List Placement) (es₀ : List Entry) → PutLoop n (take c puts) (take c places) es₀ m i marks es → i < m
       → RowLoop n (take len (getD puts i blankPut .path .bytes)) marks es 64 64 64
   row-start c m places es₀ h k =
-      rw (part-bytes (getD puts i blankPut .path) len size)
-      (record {
-        size = h .unmarked .size;
-        none = λ x w f. not-there n puts c m i x marks es (h .unmarked) (h .left .puts) k w f;
-        same = down-start (isEntry n (textBytes (getD puts i blankPut .path))) es 64 (h .left .size);
+      let path = take len (getD puts i blankPut .path .bytes) in
+      record {
+        unread = path-marks n puts c m i len marks es (h .unmarked) (h .left .puts) k size;
+        same = down-start (isEntry n path) es 64 (h .left .size);
         lowest = down-start freeEntry es 64 (h .left .size);
-      })
+      }
 
   -- next is the row that takes the put
   module _ (j row free next : ℕ) (h : RowLoop n (take len (getD puts i blankPut .path .bytes)) marks es j row free) (k : j ≤ 0) where

@@ -16,6 +16,7 @@ use Rattle.lists.specs.BoolLaws.{pass-or-fail, not-both}
 use Rattle.lists.specs.TestLaws.{none-at}
 use Rattle.lists.specs.RowLaws.{map-row}
 use Rattle.text.specs.Text.{textBytes}
+use Rattle.text.specs.TextLaws.{part-bytes}
 use Rattle.rules.specs.declared.VolumeNo.{VolumeNo}
 use Rattle.rules.specs.declared.Entry.{Entry}
 use Rattle.rules.specs.declared.Put.{Put}
@@ -67,9 +68,19 @@ other-entry n ps e i k f = go (inVolume n e) f
     go true g =
         same-symmetric (textBytes (e .path)) (textBytes (getD ps i blankPut .path)) ∙ none-at (isPut (textBytes (e .path))) ps g i k blankPut
 
--- the same of put i of the first c, m of them, and row j
-pub not-there : (n : VolumeNo) (puts : List Put) (c m i j : ℕ) (marks : List Bool) (es : List Entry) → Unmarked n (take c puts) marks es → length (take c puts) ≡ m → i < m
-    → j < 64 → getD marks j false ≡ false → isEntry n (textBytes (getD puts i blankPut .path)) (getD es j blankEntry) ≡ false
-not-there n puts c m i j marks es h e k w f =
-    let there = getD-take c puts i blankPut (omega (arith, length-take c puts)) in
-    rw there at (other-entry n (take c puts) (getD es j blankEntry) i (omega arith) (h .none j w f))
+-- a row without a mark has not this path
+pub record PathMarks (n : VolumeNo) (path : List ℕ) (marks : List Bool) (es : List Entry) : Type 0 where
+  pub size : length marks ≡ 64
+  pub none : (j : ℕ) → j < 64 → getD marks j false ≡ false → isEntry n path (getD es j blankEntry) ≡ false
+
+-- the path of put i of the first c, m of them: len bytes of it were lent
+pub path-marks : (n : VolumeNo) (puts : List Put) (c m i len : ℕ) (marks : List Bool) (es : List Entry) → Unmarked n (take c puts) marks es → length (take c puts) ≡ m
+    → i < m → len ≡ length (textBytes (getD puts i blankPut .path)) → PathMarks n (take len (getD puts i blankPut .path .bytes)) marks es
+path-marks n puts c m i len marks es h e k size =
+    rw (part-bytes (getD puts i blankPut .path) len size) (record { size = h .size; none = go })
+  where
+    there : getD (take c puts) i blankPut ≡ getD puts i blankPut
+    there = getD-take c puts i blankPut (omega (arith, length-take c puts))
+
+    go : (j : ℕ) → j < 64 → getD marks j false ≡ false → isEntry n (textBytes (getD puts i blankPut .path)) (getD es j blankEntry) ≡ false
+    go j w f = rw there at (other-entry n (take c puts) (getD es j blankEntry) i (omega arith) (h .none j w f))

@@ -69,11 +69,12 @@ pub fn count_used(entries: [Entry; 64]) -> usize
     used
 }
 
-// How many of the first `count` puts have a path that is new to the volume. The entries are searched here and by no function of its own,
-// which would copy them for each put.
+// How many of the first `count` puts have a path that is new to the volume. A row without a mark has none of their paths and is not
+// compared. The entries are searched here and by no function of its own, which would copy them for each put.
 pub fn count_new(entries: [Entry; 64], n: VolumeNo, puts: [Put; 8], count: usize) -> usize
     ensures { λ r. ⌜ r ≡ countIf (isNewPath n entries) (take count puts) ⌝ }
 {
+    let marks = mark_replaced(entries, n, puts, count);
     let m = put_count(count);
     let mut new: usize = 0;
     let mut i: usize = 0;
@@ -85,7 +86,7 @@ pub fn count_new(entries: [Entry; 64], n: VolumeNo, puts: [Put; 8], count: usize
         let mut there = false;
         let mut j: usize = 0;
         while j < 64 {
-            if entries[j].volume.0 == n.0 {
+            if marks[j] {
                 let e = entries[j];
                 if is_entry(e, n, &b[..k]) {
                     there = true;
