@@ -1,25 +1,14 @@
 // Rows by a path that is a text, of an entry or of a put.
 ghost use mathlib.Core.Path.{_≡_};
-ghost use lib.ListN.{length, take};
+ghost use lib.ListN.{take};
 ghost use Rattle.lists.specs.Lists.{anyOf};
 ghost use Rattle.text.specs.Text.{textBytes, toText};
 ghost use Rattle.rules.specs.Tables.{isPut};
 use lists::Found;
 use rows::find_put;
 use rules::Put;
-use text::PATH_LIMIT;
 use text::Text;
-
-// How many bytes the text has: at most as many as its array.
-pub(crate) fn text_len(t: Text) -> usize
-    ensures { λ r. ⌜ r ≡ length (textBytes t) ⌝ }
-{
-    if t.len < PATH_LIMIT {
-        t.len
-    } else {
-        PATH_LIMIT
-    }
-}
+use text::text_len;
 
 // The text written anew, padded with zeros.
 pub(crate) fn write_anew(t: Text) -> Text

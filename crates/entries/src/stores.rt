@@ -10,7 +10,6 @@ ghost use Rattle.rules.specs.Commit.{isReplaced, isNewPath, entryFor, storeAll}
 use super::keys::has_key;
 use super::keys::put_keys;
 use super::paths::is_staged;
-use super::paths::text_len;
 use super::paths::write_anew;
 use rows::is_entry;
 use rows::is_number;
@@ -20,6 +19,7 @@ use rules::Entry;
 use rules::Placement;
 use rules::Put;
 use rules::VolumeNo;
+use text::text_len;
 
 // Whether one of the first `count` puts replaces the entry.
 pub fn is_replaced(e: Entry, n: VolumeNo, puts: [Put; 8], count: usize) -> bool
