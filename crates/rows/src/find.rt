@@ -1,9 +1,8 @@
 // Rows by their number, and free rows: the index of the first row that passes.
 ghost use mathlib.Core.Path.{_≡_};
 ghost use Rattle.lists.specs.Lists.{firstAt};
-ghost use Rattle.rules.specs.Tables.{isVolume, isToken, isRelay, freeVolume, freeEntry, freeToken, freeRelay, numbered};
+ghost use Rattle.rules.specs.Tables.{isVolume, isToken, isRelay, freeVolume, freeToken, freeRelay, numbered};
 use lists::Found;
-use rules::Entry;
 use rules::Relay;
 use rules::RelayNo;
 use rules::Token;
@@ -56,19 +55,6 @@ pub fn free_volume(rows: [Volume; 8]) -> Found
     let mut i: usize = 0;
     while i < 8 {
         if rows[i].no.0 == 0 {
-            return Found::At(i);
-        }
-        i += 1;
-    }
-    Found::Nothing
-}
-
-pub fn free_entry(rows: [Entry; 64]) -> Found
-    ensures { λ r. ⌜ r ≡ firstAt freeEntry 0 rows ⌝ }
-{
-    let mut i: usize = 0;
-    while i < 64 {
-        if rows[i].volume.0 == 0 {
             return Found::At(i);
         }
         i += 1;

@@ -21,7 +21,6 @@ pub use chain::wide;
 pub use find::find_relay;
 pub use find::find_token;
 pub use find::find_volume;
-pub use find::free_entry;
 pub use find::free_relay;
 pub use find::free_token;
 pub use find::free_volume;
