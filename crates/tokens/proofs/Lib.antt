@@ -1,3 +1,5 @@
+pub mod AttenuateLaws
+pub mod GrantLaws
 pub mod NewTokenLaws
 pub mod RowAnswers
 pub mod ScopeLaws

@@ -1,57 +1,117 @@
--- A new token, of code that was handed the token rows and the last number of the tables. Assumes nothing.
+-- A new token, of code that was handed the last number given and whether a row is free, and the table that it is stored in. Assumes nothing.
 use mathlib.Core.Path.{_≡_, refl, sym, _∙_}
-use mathlib.Core.Bool.{true, false}
+use mathlib.Core.Bool.{Bool, true, false, not, cond}
 use mathlib.Core.List.{List}
-use Prim.Native.Nat.{ℕ, _+_, _<_, _≤_}
-use borrow.Author.Tests.{le-leb, lt-leb}
-use lib.Dec.{leb}
-use lib.ListN.{set}
-use Rattle.lists.specs.Lists.{find}
+use Prim.Native.Nat.{ℕ, _+_, _*_, _^_, _<_, _≤_}
+use native.Mathlib.Nat.{mul-le-mul-right}
+use native.Mathlib.Omega.{arith}
+use mir.Val.{Fits}
+use mir.Syntax.{w64}
+use borrow.Author.Tests.{le-leb, lt-leb, not-true, not-false, ltb-true}
+use lib.Dec.{leb, ltb}
+use lib.ListN.{length, getD, set}
+use Rattle.lists.specs.declared.Found.{Found}
+use Rattle.lists.specs.declared.Found.the-variants.{At, Nothing}
+use Rattle.lists.specs.Lists.{firstAt, find, hit, miss}
+use Rattle.lists.specs.SearchLaws.{first-row, first-miss, first-below}
 use Rattle.rules.specs.declared.Answer.{Answer}
 use Rattle.rules.specs.declared.VolumeNo.{VolumeNo}
 use Rattle.rules.specs.declared.TokenNo.{TokenNo}
 use Rattle.rules.specs.declared.Scope.{Scope}
 use Rattle.rules.specs.declared.Token.{Token}
 use Rattle.rules.specs.declared.Tables.{Tables}
+use Rattle.rules.specs.Fresh.{freshToken}
 use Rattle.rules.specs.Limits.{lastNumber}
-use Rattle.rules.specs.Numbers.{SPENT}
-use Rattle.rules.specs.Tables.{freeToken, withTokens, withLastToken}
-use Rattle.rules.specs.Outcome.{refusal, refused, accepted, success}
+use Rattle.rules.specs.Numbers.{SPENT, ROOM}
+use Rattle.rules.specs.Tables.{freeToken}
+use Rattle.rules.specs.Outcome.{refusal, refused, success}
 use Rattle.rules.specs.TokenCalls.{tokenIn, newToken}
-use Rattle.tokens.specs.Parts.{onTokens, tokensLeft}
+use Rattle.tokens.specs.Parts.{onTokens, storedAt, storedIn, notStored, isFound, placeOf}
+use Rattle.tokens.specs.declared.NewToken.{NewToken}
 use Rattle.tokens.specs.declared.TokensOutcome.{TokensOutcome}
 
--- the refusal that a function made, beside the rows and the number
-pub kept : (a : Answer) (rows : List Token) (last n : ℕ) → a ≡ refusal n → record { answer = a; tokens = rows; last = last } ≡ tokensLeft rows last n
-kept a rows last n e = rw e
+-- the refusal that a function made, and the row beside it
+pub none-stored : (a : Answer) (k : Token) (n : ℕ) → a ≡ refusal n → k ≡ freshToken → record { answer = a; stored = false; token = k } ≡ notStored n
+none-stored a k n e f = rw (e, f)
 
-module _ (t : Tables) (rows : List Token) (e : t .tokens ≡ rows) where
-  -- success with k in row i
-  pub token-placed : (v last i : ℕ) (k : Token) (a : Answer) → a ≡ success v
-      → record { answer = a; tables = withLastToken (withTokens t (set rows i k)) last } ≡ accepted v (withLastToken (withTokens t (set (t .tokens) i k)) last)
-  token-placed v last i k a h = rw (h, ← e)
+-- it leaves the tables as they are
+pub refused-new : (t : Tables) (i : ℕ) (r : NewToken) (n : ℕ) → r ≡ notStored n → storedAt t i r ≡ refused t n
+refused-new t i r n e = rw e
 
-  module _ (last : ℕ) (f : t .«last_token» ≡ last) (r : TokensOutcome) where
-    pub token-refused : (n : ℕ) → r ≡ tokensLeft rows last n → onTokens t r ≡ refused t n
-    token-refused n h = rw (h, ← e, ← f)
+module _ (t : Tables) (i last : ℕ) (v : VolumeNo) (p : TokenNo) (s : Scope) (f : t .«last_token» ≡ last) where
+  pub token-spent : (r : NewToken) → lastNumber ≤ last → r ≡ notStored SPENT → storedAt t i r ≡ newToken t v p s
+  unfolding newToken
+  token-spent r h g =
+      let w : leb lastNumber (t .«last_token») ≡ true = rw f (le-leb lastNumber last h) in
+      refused-new t i r SPENT g ∙ sym (rw w)
 
-    module _ (v : VolumeNo) (p : TokenNo) (s : Scope) where
-      pub token-spent : lastNumber ≤ last → r ≡ tokensLeft rows last SPENT → onTokens t r ≡ newToken t v p s
-      unfolding newToken
-      token-spent h g =
-          let w : leb lastNumber (t .«last_token») ≡ true = rw f (le-leb lastNumber last h) in
-          token-refused SPENT g ∙ sym (rw w)
+  module _ (free : Bool) (old : Token) (h : last < lastNumber) (e : find freeToken (t .tokens) ≡ cond free (hit i old) miss) where
+    pub token-no-room : (r : NewToken) → not free ≡ true → r ≡ notStored ROOM → storedAt t i r ≡ newToken t v p s
+    unfolding newToken tokenIn
+    token-no-room r q g =
+        let w : leb lastNumber (t .«last_token») ≡ false = rw f (lt-leb lastNumber last h) in
+        refused-new t i r ROOM g ∙ sym (rw (w, e, not-true free q))
 
-      pub token-next : last < lastNumber
-          → ((u : Tables) → u .tokens ≡ rows → u .«last_token» ≡ last
-          → onTokens u r ≡ tokenIn u (record { no = record { 0 = last + 1 }; volume = v; parent = p; scope = s; used = 0 }) (find freeToken rows))
-          → onTokens t r ≡ newToken t v p s
-      unfolding newToken
-      token-next h g =
-          let w : leb lastNumber (t .«last_token») ≡ false = rw f (lt-leb lastNumber last h) in
-          rw (← e, ← f) at (g t e f) ∙ sym (rw w)
+    pub token-next : (a : Answer) → not free ≡ false → a ≡ success (last + 1)
+        → storedAt t i (record { answer = a; stored = true; token = record { no = record { 0 = last + 1 }; volume = v; parent = p; scope = s; used = 0 } }) ≡ newToken t v p s
+    unfolding newToken tokenIn
+    token-next a q g =
+        let w : leb lastNumber (t .«last_token») ≡ false = rw f (lt-leb lastNumber last h) in
+        sym (rw (w, e, not-false free q, f, g))
 
--- what was made of the parts of t holds of t
-pub token-told : (t : Tables) (r : TokensOutcome) (v : VolumeNo) (p : TokenNo) (s : Scope)
-    → ((u : Tables) → u .tokens ≡ t .tokens → u .«last_token» ≡ t .«last_token» → onTokens u r ≡ newToken u v p s) → onTokens t r ≡ newToken t v p s
-token-told t r v p s f = f t refl refl
+-- what was made of the last number, and of whether a row is free, holds of t; the scope is the one that another function made
+pub token-told : (t : Tables) (i last : ℕ) (free : Bool) (old : Token) (r : NewToken) (v : VolumeNo) (p : TokenNo) (a b : Scope)
+    → ((u : Tables) (j : ℕ) (o : Token) → u .«last_token» ≡ last → find freeToken (u .tokens) ≡ cond free (hit j o) miss → storedAt u j r ≡ newToken u v p a)
+    → t .«last_token» ≡ last → find freeToken (t .tokens) ≡ cond free (hit i old) miss → a ≡ b → storedAt t i r ≡ newToken t v p b
+token-told t i last free old r v p a b g f e q = g t i old f e ∙ rw q
+
+-- what a search said: f
+module _ (f : Found) where
+  pub found-none : f ≡ Nothing → false ≡ isFound f
+  found-none e = sym (rw e)
+
+  pub found-some : (i : ℕ) → f ≡ At i → true ≡ isFound f
+  found-some i e = sym (rw e)
+
+  pub place-none : f ≡ Nothing → 0 ≡ placeOf f
+  place-none e = sym (rw e)
+
+  pub place-some : (i : ℕ) → f ≡ At i → i ≡ placeOf f
+  place-some i e = sym (rw e)
+
+module _ {A : Type 0} (p : A → Bool) (l : List A) where
+  pub found-row : (d : A) (f : Found) → f ≡ firstAt p 0 l → find p l ≡ cond (isFound f) (hit (placeOf f) (getD l (placeOf f) d)) miss
+  found-row d (At i) e = first-row p l i (sym e) d
+  found-row d Nothing e = first-miss p l (sym e)
+
+  -- the place lies in a table of n rows
+  place-below : (n : ℕ) → 0 < n → length l ≡ n → (f : Found) → f ≡ firstAt p 0 l → placeOf f < n
+  place-below n h k (At i) e = omega (arith, k, first-below p l 0 i (sym e))
+  place-below n h k Nothing e = h
+
+  module _ (f : Found) (i n : ℕ) (e : f ≡ firstAt p 0 l) (q : i ≡ placeOf f) (k : length l ≡ n) where
+    pub place-in : ltb 0 n ≡ true → i < n
+    place-in h = rw q (place-below n (ltb-true 0 n h) k f e)
+
+    pub place-fits : (m : ℕ) → ltb 0 n ≡ true → ltb (n * m) (2 ^ 64) ≡ true → Fits w64 (i * m)
+    place-fits m h w =
+        let j : i < n = place-in h in
+        record { fits = omega (arith, mul-le-mul-right m j, ltb-true (n * m) (2 ^ 64) w) }
+
+-- the tokens and the last number as they were, or with the new token
+module _ (rows : List Token) (last : ℕ) (f : Found) (o : NewToken) where
+  pub store-none : not (o .stored) ≡ true → record { answer = o .answer; tokens = rows; last = last } ≡ storedIn rows last (placeOf f) o
+  store-none q = rw (not-true (o .stored) q)
+
+  pub store-row : (i : ℕ) → i ≡ placeOf f → not (o .stored) ≡ false
+      → record { answer = o .answer; tokens = set rows i (o .token); last = o .token .no .0 } ≡ storedIn rows last (placeOf f) o
+  store-row i e q = rw (not-false (o .stored) q, e)
+
+-- of the tables t
+module _ (rows : List Token) (i last : ℕ) (o : NewToken) (t : Tables) (e : t .tokens ≡ rows) (l : t .«last_token» ≡ last) where
+  on-stored : (b : Bool) → o .stored ≡ b → onTokens t (storedIn rows last i o) ≡ storedAt t i o
+  on-stored true q = rw (q, ← e)
+  on-stored false q = rw (q, ← e, ← l)
+
+  pub tokens-stored : (r : TokensOutcome) → r ≡ storedIn rows last i o → onTokens t r ≡ storedAt t i o
+  tokens-stored r h = rw h (on-stored (o .stored) refl)

@@ -18,33 +18,14 @@ use Rattle.rules.specs.declared.TokenNo.{TokenNo}
 use Rattle.rules.specs.declared.Token.{Token}
 use Rattle.rules.specs.declared.Tables.{Tables}
 use Rattle.rules.specs.declared.TablesOutcome.{TablesOutcome}
-use Rattle.rules.specs.Tables.{isVolume, isToken, isEntry, freeToken, withTokens, withLastToken}
+use Rattle.rules.specs.Tables.{isVolume, isToken, isEntry, withTokens, withLastToken}
 use Rattle.rules.specs.Outcome.{refusal, refused, accepted}
-use Rattle.rules.specs.Scope.{ScopeArg}
-use Rattle.rules.specs.TokenCalls.{tokenIn, grantIn, attenuateIn, revokeIn, revokeOwner, lookIn, lookEntry}
+use Rattle.rules.specs.TokenCalls.{revokeIn, revokeOwner, lookIn, lookEntry}
 use Rattle.rows.specs.Blank.{blankVolume, blankToken, blankEntry}
 use Rattle.rows.specs.EntryLaws.{entry-here}
 use Rattle.tokens.specs.Parts.{unchanged}
 
 module _ (t : Tables) where
-  pub place-none : (k : Token) (rows : List Token) → NoRow (tokenIn t k) freeToken rows
-  place-none k rows = no-row (tokenIn t k) _ _
-
-  pub place-at : (k : Token) (rows : List Token) → AtRow (tokenIn t k) freeToken rows blankToken
-  place-at k rows = at-row (tokenIn t k) _ _ _
-
-  pub grant-none : (a : Account) (s : ScopeArg) (n : VolumeNo) → NoRow (grantIn t a s) (isVolume n) (t .volumes)
-  grant-none a s n = no-row (grantIn t a s) _ _
-
-  pub grant-at : (a : Account) (s : ScopeArg) (n : VolumeNo) → AtRow (grantIn t a s) (isVolume n) (t .volumes) blankVolume
-  grant-at a s n = at-row (grantIn t a s) _ _ _
-
-  pub attenuate-none : (s : ScopeArg) (n : TokenNo) → NoRow (attenuateIn t s) (isToken n) (t .tokens)
-  attenuate-none s n = no-row (attenuateIn t s) _ _
-
-  pub attenuate-at : (s : ScopeArg) (n : TokenNo) → AtRow (attenuateIn t s) (isToken n) (t .tokens) blankToken
-  attenuate-at s n = at-row (attenuateIn t s) _ _ _
-
   pub revoke-none : (a : Account) (n : TokenNo) → NoRow (revokeIn t a) (isToken n) (t .tokens)
   revoke-none a n = no-row (revokeIn t a) _ _
 
@@ -85,9 +66,9 @@ module _ (t : Tables) (r : Answer) where
   pub answers : (a : Answer) → r ≡ a → unchanged t r ≡ unchanged t a
   answers a e = rw e
 
--- a number n that a function counted as r, against a limit that it may not reach
-pub counted-most : (r n m : ℕ) → m ≤ r → r ≡ n → leb m n ≡ true
-counted-most r n m h e = rw (← e) (le-leb m r h)
+-- a number n that was counted as r, against a limit that it may not reach
+pub counted-most : (r n m : ℕ) → m ≤ r → n ≡ r → leb m n ≡ true
+counted-most r n m h e = rw e (le-leb m r h)
 
-pub counted-less : (r n m : ℕ) → r < m → r ≡ n → leb m n ≡ false
-counted-less r n m h e = rw (← e) (lt-leb m r h)
+pub counted-less : (r n m : ℕ) → r < m → n ≡ r → leb m n ≡ false
+counted-less r n m h e = rw e (lt-leb m r h)

@@ -11,19 +11,10 @@ use Rattle.lists.specs.AnswerLaws.{said-yes}
 use Rattle.text.specs.declared.Text.{Text}
 use Rattle.text.specs.Text.{pathLimit, isPrefix, toText}
 use Rattle.text.specs.TextLaws.{prefix-fits}
-use Rattle.rules.specs.declared.VolumeNo.{VolumeNo}
-use Rattle.rules.specs.declared.TokenNo.{TokenNo}
 use Rattle.rules.specs.declared.Mode.{Mode}
 use Rattle.rules.specs.declared.Scope.{Scope}
-use Rattle.rules.specs.declared.Tables.{Tables}
-use Rattle.rules.specs.declared.TablesOutcome.{TablesOutcome}
 use Rattle.rules.specs.Scope.{toScope}
-use Rattle.rules.specs.TokenCalls.{newToken}
 use Rattle.tokens.specs.Parts.{scopeArg}
-
--- a new token with the scope that another function made
-pub token-with : (t : Tables) (v : VolumeNo) (k : TokenNo) (a b : Scope) (x : TablesOutcome) → x ≡ newToken t v k a → a ≡ b → x ≡ newToken t v k b
-token-with t v k a b x e f = e ∙ rw f
 
 -- a prefix that is one is kept whole
 pub whole-scope : (prefix : List ℕ) (mode : Mode) (cap : Cap) (start until : ℕ) (x : Text) → isPrefix prefix ≡ true → x ≡ toText (take pathLimit prefix)

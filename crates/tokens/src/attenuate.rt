@@ -1,13 +1,22 @@
 // Attenuate: a token makes a child of narrower scope.
 ghost use mathlib.Core.Path.{_≡_};
-ghost use mathlib.Core.Bool.{true};
-ghost use Rattle.lists.specs.Lists.{hit};
+ghost use mathlib.Core.Bool.{true, cond};
+ghost use Prim.Native.Nat.{ℕ};
+ghost use Rattle.lists.specs.Lists.{find, hit, miss};
 ghost use Rattle.text.specs.Text.{isPrefix};
+ghost use Rattle.rules.specs.declared.Tables.{Tables};
+ghost use Rattle.rules.specs.declared.Token.{Token};
+ghost use Rattle.rules.specs.declared.TokenNo.{TokenNo};
+ghost use Rattle.rules.specs.Scope.{depth};
+ghost use Rattle.rules.specs.Tables.{freeToken, tokenOf};
 ghost use Rattle.rules.specs.TokenCalls.{attenuateRule, attenuateIn};
-ghost use Rattle.tokens.specs.Parts.{onTokens, scopeArg};
+ghost use Rattle.tokens.specs.Parts.{onTokens, storedAt, scopeArg};
+use super::NewToken;
 use super::TokensOutcome;
-use super::answers::refuse;
+use super::new_tokens::is_found;
 use super::new_tokens::new_token;
+use super::new_tokens::not_stored;
+use super::new_tokens::store;
 use super::scope::make_scope;
 use super::scope::narrows;
 use super::scope::scope_fits;
@@ -15,10 +24,12 @@ use amount::Cap;
 use lists::Found;
 use rows::depth_of;
 use rows::find_token;
+use rows::free_token;
 use rules::Mode;
 use rules::Tables;
 use rules::Token;
 use rules::TokenNo;
+use rules::fresh_token;
 use rules::numbers::BAD;
 use rules::numbers::DEEP;
 use rules::numbers::NO_TOKEN;
@@ -26,7 +37,62 @@ use rules::numbers::WIDENS;
 
 // From the parent's row on.
 fn attenuate_in(
-    t: Tables,
+    k: Token,
+    deep: usize,
+    last: u32,
+    free: bool,
+    prefix: &[u8],
+    mode: Mode,
+    cap: Cap,
+    from: u64,
+    until: u64,
+) -> NewToken
+    requires { ⌜ isPrefix (now prefix) ≡ true ⌝ }
+    ensures { λ r. ⌜ ((t : Tables) (i : ℕ) (old : Token) → depth (t .tokens) k ≡ deep → t .«last_token» ≡ last → find freeToken (t .tokens) ≡ cond free (hit i old) miss → storedAt t i r ≡ attenuateIn t (scopeArg (now (prefix .entry)) mode cap from until) (hit 0 k)) ⌝ }
+{
+    let parent = k.scope;
+    if !narrows(prefix, mode, cap, from, until, parent) {
+        return not_stored(WIDENS);
+    }
+    if 8 <= deep {
+        return not_stored(DEEP);
+    }
+    let volume = k.volume;
+    let no = k.no;
+    let scope = make_scope(prefix, mode, cap, from, until);
+    new_token(last, free, volume, no, scope)
+}
+
+// The same as `attenuate_on`, of the parent's row where there is one, its depth, the last token number given, and whether a row of the
+// tokens is free.
+pub fn attenuate_row(
+    there: bool,
+    k: Token,
+    deep: usize,
+    last: u32,
+    free: bool,
+    prefix: &[u8],
+    mode: Mode,
+    cap: Cap,
+    from: u64,
+    until: u64,
+) -> NewToken
+    ensures { λ r. ⌜ ((t : Tables) (n : TokenNo) (i j : ℕ) (old : Token) → tokenOf n t ≡ cond there (hit j k) miss → depth (t .tokens) k ≡ deep → t .«last_token» ≡ last → find freeToken (t .tokens) ≡ cond free (hit i old) miss → storedAt t i r ≡ attenuateRule n (scopeArg (now (prefix .entry)) mode cap from until) t) ⌝ }
+{
+    if !scope_fits(prefix, cap, from, until) {
+        return not_stored(BAD);
+    }
+    if !there {
+        return not_stored(NO_TOKEN);
+    }
+    attenuate_in(k, deep, last, free, prefix, mode, cap, from, until)
+}
+
+// In the table of the tokens, from the parent's row on.
+fn attenuate_at(
+    rows: [Token; 32],
+    last: u32,
+    there: bool,
     k: Token,
     prefix: &[u8],
     mode: Mode,
@@ -34,21 +100,13 @@ fn attenuate_in(
     from: u64,
     until: u64,
 ) -> TokensOutcome
-    requires { ⌜ isPrefix (now prefix) ≡ true ⌝ }
-    ensures { λ r. ⌜ onTokens t r ≡ attenuateIn t (scopeArg (now (prefix .entry)) mode cap from until) (hit 0 k) ⌝ }
+    ensures { λ r. ⌜ ((t : Tables) (n : TokenNo) (j : ℕ) → t .tokens ≡ rows → t .«last_token» ≡ last → tokenOf n t ≡ cond there (hit j k) miss → onTokens t r ≡ attenuateRule n (scopeArg (now (prefix .entry)) mode cap from until) t) ⌝ }
 {
-    let parent = k.scope;
-    if !narrows(prefix, mode, cap, from, until, parent) {
-        return refuse(t, WIDENS);
-    }
-    let rows = t.tokens;
-    if 8 <= depth_of(rows, k) {
-        return refuse(t, DEEP);
-    }
-    let volume = k.volume;
-    let no = k.no;
-    let scope = make_scope(prefix, mode, cap, from, until);
-    new_token(rows, t.last_token, volume, no, scope)
+    let deep = depth_of(rows, k);
+    let f = free_token(rows);
+    let free = is_found(f);
+    let o = attenuate_row(there, k, deep, last, free, prefix, mode, cap, from, until);
+    store(rows, last, f, o)
 }
 
 // The token n gets a child whose scope lies within its own.
@@ -63,13 +121,12 @@ pub fn attenuate_on(
 ) -> TokensOutcome
     ensures { λ r. ⌜ onTokens t r ≡ attenuateRule n (scopeArg (now (prefix .entry)) mode cap from until) t ⌝ }
 {
-    if !scope_fits(prefix, cap, from, until) {
-        return refuse(t, BAD);
-    }
     let rows = t.tokens;
-    let Found::At(i) = find_token(rows, n) else {
-        return refuse(t, NO_TOKEN);
+    let last = t.last_token;
+    let Found::At(j) = find_token(rows, n) else {
+        let k = fresh_token();
+        return attenuate_at(rows, last, false, k, prefix, mode, cap, from, until);
     };
-    let k = rows[i];
-    attenuate_in(t, k, prefix, mode, cap, from, until)
+    let k = rows[j];
+    attenuate_at(rows, last, true, k, prefix, mode, cap, from, until)
 }

@@ -1,18 +1,26 @@
 // Grant: the owner of a volume makes a root token for it.
 ghost use mathlib.Core.Path.{_≡_};
-ghost use mathlib.Core.Bool.{true};
-ghost use Rattle.lists.specs.Lists.{hit};
+ghost use mathlib.Core.Bool.{true, cond};
+ghost use Prim.Native.Nat.{ℕ};
+ghost use Rattle.lists.specs.Lists.{find, hit, miss};
 ghost use Rattle.text.specs.Text.{isPrefix};
+ghost use Rattle.rules.specs.declared.Tables.{Tables};
+ghost use Rattle.rules.specs.declared.Token.{Token};
+ghost use Rattle.rules.specs.Tables.{freeToken};
 ghost use Rattle.rules.specs.TokenCalls.{grantRule, grantIn};
-ghost use Rattle.tokens.specs.Parts.{onTokens, scopeArg};
+ghost use Rattle.tokens.specs.Parts.{onTokens, storedAt, scopeArg};
+use super::NewToken;
 use super::TokensOutcome;
-use super::answers::refuse;
+use super::new_tokens::is_found;
 use super::new_tokens::new_token;
+use super::new_tokens::not_stored;
+use super::new_tokens::store;
 use super::scope::make_scope;
 use super::scope::scope_fits;
 use amount::Cap;
 use lists::Found;
 use rows::find_volume;
+use rows::free_token;
 use rows::is_open;
 use rows::owned_by;
 use rules::Account;
@@ -28,29 +36,54 @@ use rules::numbers::STATE;
 
 // From the volume's row on.
 fn grant_in(
-    t: Tables,
-    a: Account,
     v: Volume,
+    last: u32,
+    free: bool,
+    a: Account,
     prefix: &[u8],
     mode: Mode,
     cap: Cap,
     from: u64,
     until: u64,
-) -> TokensOutcome
+) -> NewToken
     requires { ⌜ isPrefix (now prefix) ≡ true ⌝ }
-    ensures { λ r. ⌜ onTokens t r ≡ grantIn t a (scopeArg (now (prefix .entry)) mode cap from until) (hit 0 v) ⌝ }
+    ensures { λ r. ⌜ ((t : Tables) (i : ℕ) (old : Token) → t .«last_token» ≡ last → find freeToken (t .tokens) ≡ cond free (hit i old) miss → storedAt t i r ≡ grantIn t a (scopeArg (now (prefix .entry)) mode cap from until) (hit 0 v)) ⌝ }
 {
     if !owned_by(v, a) {
-        return refuse(t, NOT_OWNER);
+        return not_stored(NOT_OWNER);
     }
     let status = v.status;
     if !is_open(status) {
-        return refuse(t, STATE);
+        return not_stored(STATE);
     }
     let volume = v.no;
     let scope = make_scope(prefix, mode, cap, from, until);
-    let rows = t.tokens;
-    new_token(rows, t.last_token, volume, TokenNo(0), scope)
+    new_token(last, free, volume, TokenNo(0), scope)
+}
+
+// The same as `grant_on`, of a table of volumes, the last token number given, and whether a row of the tokens is free.
+pub fn grant_row(
+    volumes: [Volume; 8],
+    last: u32,
+    free: bool,
+    a: Account,
+    n: VolumeNo,
+    prefix: &[u8],
+    mode: Mode,
+    cap: Cap,
+    from: u64,
+    until: u64,
+) -> NewToken
+    ensures { λ r. ⌜ ((t : Tables) (i : ℕ) (old : Token) → t .volumes ≡ volumes → t .«last_token» ≡ last → find freeToken (t .tokens) ≡ cond free (hit i old) miss → storedAt t i r ≡ grantRule a n (scopeArg (now (prefix .entry)) mode cap from until) t) ⌝ }
+{
+    if !scope_fits(prefix, cap, from, until) {
+        return not_stored(BAD);
+    }
+    let Found::At(j) = find_volume(volumes, n) else {
+        return not_stored(NO_VOLUME);
+    };
+    let v = volumes[j];
+    grant_in(v, last, free, a, prefix, mode, cap, from, until)
 }
 
 // The owner of the volume n gets a token for what lies under the prefix.
@@ -66,13 +99,11 @@ pub fn grant_on(
 ) -> TokensOutcome
     ensures { λ r. ⌜ onTokens t r ≡ grantRule a n (scopeArg (now (prefix .entry)) mode cap from until) t ⌝ }
 {
-    if !scope_fits(prefix, cap, from, until) {
-        return refuse(t, BAD);
-    }
-    let rows = t.volumes;
-    let Found::At(i) = find_volume(rows, n) else {
-        return refuse(t, NO_VOLUME);
-    };
-    let v = rows[i];
-    grant_in(t, a, v, prefix, mode, cap, from, until)
+    let rows = t.tokens;
+    let volumes = t.volumes;
+    let last = t.last_token;
+    let f = free_token(rows);
+    let free = is_found(f);
+    let o = grant_row(volumes, last, free, a, n, prefix, mode, cap, from, until);
+    store(rows, last, f, o)
 }

@@ -1,5 +1,6 @@
 // The work of the calls on tokens: grant, attenuate, revoke and look. Each reads the tables and gives back what it
-// changes of them: the token table and the last number given. Look changes nothing and gives back its answer.
+// changes of them: the token table and the last number given. Look changes nothing and gives back its answer. Grant and attenuate
+// also have a form for a caller that has found the rows: it takes these rows, and gives back the new one.
 mod answers;
 mod attenuate;
 mod grant;
@@ -9,7 +10,9 @@ mod revoke;
 mod scope;
 
 pub use attenuate::attenuate_on;
+pub use attenuate::attenuate_row;
 pub use grant::grant_on;
+pub use grant::grant_row;
 pub use look::look_on;
 pub use revoke::revoke_on;
 use rules::Answer;
@@ -20,4 +23,11 @@ pub struct TokensOutcome {
     pub answer: Answer,
     pub tokens: [Token; 32],
     pub last: u32,
+}
+
+// What a call that makes a token gives: its answer, and the new row where one is stored.
+pub struct NewToken {
+    pub answer: Answer,
+    pub stored: bool,
+    pub token: Token,
 }

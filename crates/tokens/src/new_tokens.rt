@@ -1,13 +1,16 @@
-// A new token takes the next number and the lowest free row.
+// A new token takes the next number, and a free row where there is one.
 ghost use mathlib.Core.Path.{_≡_};
-ghost use Rattle.lists.specs.Lists.{find};
+ghost use mathlib.Core.Bool.{cond};
+ghost use Prim.Native.Nat.{ℕ};
+ghost use Rattle.lists.specs.Lists.{firstAt, find, hit, miss};
 ghost use Rattle.rules.specs.declared.Tables.{Tables};
+ghost use Rattle.rules.specs.declared.Token.{Token};
 ghost use Rattle.rules.specs.Tables.{freeToken};
-ghost use Rattle.rules.specs.TokenCalls.{tokenIn, newToken};
-ghost use Rattle.tokens.specs.Parts.{onTokens, tokensLeft};
+ghost use Rattle.rules.specs.TokenCalls.{newToken};
+ghost use Rattle.tokens.specs.Parts.{storedAt, storedIn, notStored, isFound, placeOf};
+use super::NewToken;
 use super::TokensOutcome;
 use lists::Found;
-use rows::free_token;
 use rules::Scope;
 use rules::Token;
 use rules::TokenNo;
@@ -15,53 +18,90 @@ use rules::VolumeNo;
 use rules::numbers::ROOM;
 use rules::numbers::SPENT;
 
-// A refusal leaves the tokens and the last number as they are.
-fn keep(rows: [Token; 32], last: u32, n: u32) -> TokensOutcome
-    ensures { λ r. ⌜ r ≡ tokensLeft rows last n ⌝ }
+// A refusal stores no token.
+pub(crate) fn not_stored(n: u32) -> NewToken
+    ensures { λ r. ⌜ r ≡ notStored n ⌝ }
 {
     let answer = rules::refusal(n);
-    TokensOutcome {
+    let token = rules::fresh_token();
+    NewToken {
         answer,
-        tokens: rows,
-        last,
+        stored: false,
+        token,
     }
 }
 
-// The token takes the lowest free row, and its number is the last one given. Of the tables, only these rows and the last number are handed on.
-fn place_token(rows: [Token; 32], last: u32, k: Token) -> TokensOutcome
-    ensures { λ r. ⌜ ((t : Tables) → t .tokens ≡ rows → t .«last_token» ≡ last → onTokens t r ≡ tokenIn t k (find freeToken rows)) ⌝ }
-{
-    let Found::At(i) = free_token(rows) else {
-        return keep(rows, last, ROOM);
-    };
-    let mut tokens = rows;
-    tokens[i] = k;
-    let answer = rules::success(k.no.0 as u64);
-    TokensOutcome {
-        answer,
-        tokens,
-        last: k.no.0,
-    }
-}
-
+// The token of the next number. `last` is the last number given, and `free` says whether there is a free row.
 pub(crate) fn new_token(
-    rows: [Token; 32],
     last: u32,
+    free: bool,
     volume: VolumeNo,
     parent: TokenNo,
     scope: Scope,
-) -> TokensOutcome
-    ensures { λ r. ⌜ ((t : Tables) → t .tokens ≡ rows → t .«last_token» ≡ last → onTokens t r ≡ newToken t volume parent scope) ⌝ }
+) -> NewToken
+    ensures { λ r. ⌜ ((t : Tables) (i : ℕ) (old : Token) → t .«last_token» ≡ last → find freeToken (t .tokens) ≡ cond free (hit i old) miss → storedAt t i r ≡ newToken t volume parent scope) ⌝ }
 {
     if 65535 <= last {
-        return keep(rows, last, SPENT);
+        return not_stored(SPENT);
     }
-    let k = Token {
+    if !free {
+        return not_stored(ROOM);
+    }
+    let token = Token {
         no: TokenNo(last + 1),
         volume,
         parent,
         scope,
         used: 0,
     };
-    place_token(rows, last, k)
+    let answer = rules::success((last + 1) as u64);
+    NewToken {
+        answer,
+        stored: true,
+        token,
+    }
+}
+
+// Whether a search found a row.
+pub(crate) fn is_found(f: Found) -> bool
+    ensures { λ r. ⌜ r ≡ isFound f ⌝ }
+{
+    let Found::At(_) = f else {
+        return false;
+    };
+    true
+}
+
+// The index of the row that a search found: 0 where there is none.
+fn place_of(f: Found) -> usize
+    ensures { λ r. ⌜ r ≡ placeOf f ⌝ }
+{
+    let Found::At(i) = f else {
+        return 0;
+    };
+    i
+}
+
+// The token table with the new token, where one is stored, and its number is the last one given. `f` is the first free row.
+pub(crate) fn store(rows: [Token; 32], last: u32, f: Found, o: NewToken) -> TokensOutcome
+    requires { ⌜ f ≡ firstAt freeToken 0 rows ⌝ }
+    ensures { λ r. ⌜ r ≡ storedIn rows last (placeOf f) o ⌝ }
+{
+    let answer = o.answer;
+    if !o.stored {
+        return TokensOutcome {
+            answer,
+            tokens: rows,
+            last,
+        };
+    }
+    let k = o.token;
+    let i = place_of(f);
+    let mut tokens = rows;
+    tokens[i] = k;
+    TokensOutcome {
+        answer,
+        tokens,
+        last: k.no.0,
+    }
 }

@@ -2,8 +2,7 @@
 use Rattle.rules.specs.TokenCalls.{attenuateIn}
 use Rattle.lists.specs.AnswerLaws.{checks}
 use Rattle.tokens.proofs.RowAnswers.{counted-most, counted-less}
-use Rattle.tokens.proofs.NewTokenLaws.{token-told}
-use Rattle.tokens.proofs.ScopeLaws.{token-with}
+use Rattle.tokens.proofs.NewTokenLaws.{refused-new, token-told}
 use borrow.Author.Needs.{needs}
 use Rattle.tokens.proofs.attenuate.attenuate_in.Statement.{statement}
 use Rattle.tokens.proofs.attenuate.attenuate_in.Tie as tie
@@ -15,10 +14,9 @@ attenuate-in-spec =
     (tie.spec
     (λ c κs. search needs)
     (λ c κs. search needs)
-    (λ c. search checks)  -- WIDENS
+    (λ c t i old d e f. search (checks, refused-new))  -- WIDENS
+    (λ c κs. search needs)
+    (λ c t i old d e f. search (checks, counted-most, refused-new))  -- DEEP
     (λ c κs. search needs)
     (λ c κs. search needs)
-    (λ c. search (checks, counted-most))  -- DEEP
-    (λ c κs. search needs)
-    (λ c κs. search needs)
-    (λ c. search (checks, counted-less, token-with, token-told)))  -- a new token
+    (λ c t i old d e f. search (checks, counted-less, token-told)))  -- a new token
