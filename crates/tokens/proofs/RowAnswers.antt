@@ -1,15 +1,11 @@
 -- What each rule that goes by a row of a table answers: `X-none` where the search found no row, `X-at` at the row that it found. And the
 -- answers that hold what another function of the code made. Assumes nothing.
 use mathlib.Core.List.{List}
-use mathlib.Core.Bool.{Bool, true, false}
-use mathlib.Core.Path.{_≡_, refl, _∙_}
+use mathlib.Core.Bool.{true, false}
+use mathlib.Core.Path.{_≡_, _∙_}
 use Prim.Native.Nat.{ℕ, _<_, _≤_}
 use borrow.Author.Tests.{le-leb, lt-leb}
 use lib.Dec.{leb}
-use lib.ListN.{getD}
-use Rattle.lists.specs.declared.Found.the-variants.{At, Nothing}
-use Rattle.lists.specs.Lists.{hit, miss, find}
-use Rattle.lists.specs.LoopLaws.{FindLoop, find-end}
 use Rattle.lists.specs.AnswerLaws.{NoRow, AtRow, no-row, at-row}
 use Rattle.rules.specs.declared.Account.{Account}
 use Rattle.rules.specs.declared.Answer.{Answer}
@@ -18,11 +14,10 @@ use Rattle.rules.specs.declared.TokenNo.{TokenNo}
 use Rattle.rules.specs.declared.Token.{Token}
 use Rattle.rules.specs.declared.Tables.{Tables}
 use Rattle.rules.specs.declared.TablesOutcome.{TablesOutcome}
-use Rattle.rules.specs.Tables.{isVolume, isToken, isEntry, withTokens, withLastToken}
+use Rattle.rules.specs.Tables.{isVolume, isToken, withTokens, withLastToken}
 use Rattle.rules.specs.Outcome.{refusal, refused, accepted}
-use Rattle.rules.specs.TokenCalls.{revokeIn, revokeOwner, lookIn, lookEntry}
-use Rattle.rows.specs.Blank.{blankVolume, blankToken, blankEntry}
-use Rattle.rows.specs.EntryLaws.{entry-here}
+use Rattle.rules.specs.TokenCalls.{revokeIn, revokeOwner}
+use Rattle.rows.specs.Blank.{blankVolume, blankToken}
 use Rattle.tokens.specs.Parts.{unchanged}
 
 module _ (t : Tables) where
@@ -37,21 +32,6 @@ module _ (t : Tables) where
 
   pub owner-at : (a : Account) (k : Token) (n : VolumeNo) → AtRow (revokeOwner t a k) (isVolume n) (t .volumes) blankVolume
   owner-at a k n = at-row (revokeOwner t a k) _ _ _
-
-  pub look-none : (path : List ℕ) (n : TokenNo) → NoRow (lookIn t path) (isToken n) (t .tokens)
-  look-none path n = no-row (lookIn t path) _ _
-
-  pub look-at : (path : List ℕ) (n : TokenNo) → AtRow (lookIn t path) (isToken n) (t .tokens) blankToken
-  look-at path n = at-row (lookIn t path) _ _ _
-
--- an entry's row i, of a search that the code makes by itself
-module _ (t : Tables) (n : VolumeNo) (path : List ℕ) (i : ℕ) (x : TablesOutcome) where
-  pub entry-at : (b : Bool) → b ≡ true → b ≡ isEntry n path (getD (t .entries) i blankEntry) → i < 64 → FindLoop (isEntry n path) (t .entries) 64 i
-      → x ≡ lookEntry t (hit i (getD (t .entries) i blankEntry)) → x ≡ lookEntry t (find (isEntry n path) (t .entries))
-  entry-at b e f k h = at-row (lookEntry t) (isEntry n path) (t .entries) blankEntry (At i) x i (entry-here n path (t .entries) i b e f k h) refl
-
-  pub entry-none : 64 ≤ i → FindLoop (isEntry n path) (t .entries) 64 i → x ≡ lookEntry t miss → x ≡ lookEntry t (find (isEntry n path) (t .entries))
-  entry-none k h = no-row (lookEntry t) (isEntry n path) (t .entries) Nothing x (find-end (isEntry n path) (t .entries) 64 i h k) refl
 
 -- success with the tokens that another function made
 pub accepts : (t : Tables) (v last : ℕ) (a b : List Token) (x : TablesOutcome) → x ≡ accepted v (withLastToken (withTokens t a) last) → a ≡ b

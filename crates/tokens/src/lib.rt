@@ -1,6 +1,6 @@
 // The work of the calls on tokens: grant, attenuate, revoke and look. Each reads the tables and gives back what it
-// changes of them: the token table and the last number given. Look changes nothing and gives back its answer. Grant and attenuate
-// also have a form for a caller that has found the rows: it takes these rows, and gives back the new one.
+// changes of them: the token table and the last number given. Look changes nothing and gives back its answer. Grant, attenuate
+// and look also have a form for a caller that has found the rows: it takes these rows, and gives back the new one or the answer.
 mod answers;
 mod attenuate;
 mod grant;
@@ -14,6 +14,7 @@ pub use attenuate::attenuate_row;
 pub use grant::grant_on;
 pub use grant::grant_row;
 pub use look::look_on;
+pub use look::look_rows;
 pub use revoke::revoke_on;
 use rules::Answer;
 use rules::Token;

@@ -1,7 +1,11 @@
 // Look: the size of the object at a path, and its hash. It changes nothing.
 ghost use mathlib.Core.Path.{_≡_};
-ghost use Rattle.lists.specs.Lists.{hit};
-ghost use Rattle.rules.specs.Tables.{entryOf};
+ghost use mathlib.Core.Bool.{cond};
+ghost use Prim.Native.Nat.{ℕ};
+ghost use Rattle.lists.specs.Lists.{hit, miss};
+ghost use Rattle.rules.specs.declared.Tables.{Tables};
+ghost use Rattle.rules.specs.declared.TokenNo.{TokenNo};
+ghost use Rattle.rules.specs.Tables.{tokenOf, entryOf};
 ghost use Rattle.rules.specs.TokenCalls.{lookRule, lookIn, lookEntry};
 ghost use Rattle.tokens.specs.Parts.{unchanged};
 use lists::Found;
@@ -10,10 +14,11 @@ use rows::find_token;
 use rows::in_window;
 use rows::is_entry;
 use rules::Answer;
+use rules::Entry;
 use rules::Tables;
 use rules::Token;
 use rules::TokenNo;
-use rules::VolumeNo;
+use rules::fresh_entry;
 use rules::numbers::BAD;
 use rules::numbers::MODE;
 use rules::numbers::NO_ENTRY;
@@ -24,31 +29,23 @@ use rules::refusal;
 use rules::success_with;
 use text::path::is_path;
 
-// The entry's size, and its hash handed back. A row of another volume is not copied.
-fn look_entry(t: Tables, n: VolumeNo, path: &[u8]) -> Answer
-    ensures { λ r. ⌜ unchanged t r ≡ lookEntry t (entryOf n (now (path .entry)) t) ⌝ }
+// The entry's size, and its hash handed back.
+fn look_entry(found: bool, e: Entry) -> Answer
+    ensures { λ r. ⌜ ((t : Tables) (j : ℕ) → unchanged t r ≡ lookEntry t (cond found (hit j e) miss)) ⌝ }
 {
-    let rows = t.entries;
-    let mut i: usize = 0;
-    while i < 64 {
-        if rows[i].volume.0 == n.0 {
-            let e = rows[i];
-            if is_entry(e, n, path) {
-                let hash = e.hash;
-                return success_with(e.size, hash);
-            }
-        }
-        i += 1;
+    if !found {
+        return refusal(NO_ENTRY);
     }
-    refusal(NO_ENTRY)
+    let hash = e.hash;
+    success_with(e.size, hash)
 }
 
 // From the token's row on.
-fn look_token(t: Tables, k: Token, path: &[u8]) -> Answer
-    ensures { λ r. ⌜ unchanged t r ≡ lookIn t (now (path .entry)) (hit 0 k) ⌝ }
+fn look_token(clock: u64, k: Token, found: bool, e: Entry, path: &[u8]) -> Answer
+    ensures { λ r. ⌜ ((t : Tables) (j : ℕ) → t .clock ≡ clock → entryOf (k .volume) (now (path .entry)) t ≡ cond found (hit j e) miss → unchanged t r ≡ lookIn t (now (path .entry)) (hit 0 k)) ⌝ }
 {
     let scope = k.scope;
-    if !in_window(t.clock, scope) {
+    if !in_window(clock, scope) {
         return refusal(WINDOW);
     }
     let mode = scope.mode;
@@ -59,8 +56,39 @@ fn look_token(t: Tables, k: Token, path: &[u8]) -> Answer
     if !text::covers(prefix, path) {
         return refusal(PREFIX);
     }
-    let volume = k.volume;
-    look_entry(t, volume, path)
+    look_entry(found, e)
+}
+
+// The same as `look_on`, of the token's row and of the row of the path in the token's volume, where there are such rows.
+pub fn look_rows(clock: u64, there: bool, k: Token, found: bool, e: Entry, path: &[u8]) -> Answer
+    ensures { λ r. ⌜ ((t : Tables) (n : TokenNo) (i j : ℕ) → t .clock ≡ clock → tokenOf n t ≡ cond there (hit i k) miss → entryOf (k .volume) (now (path .entry)) t ≡ cond found (hit j e) miss → unchanged t r ≡ lookRule n (now (path .entry)) t) ⌝ }
+{
+    if !is_path(path) {
+        return refusal(BAD);
+    }
+    if !there {
+        return refusal(NO_TOKEN);
+    }
+    look_token(clock, k, found, e, path)
+}
+
+// In the table of the entries, from the token's row on. A row of another volume is not copied.
+fn look_in(clock: u64, k: Token, entries: [Entry; 64], path: &[u8]) -> Answer
+    ensures { λ r. ⌜ ((t : Tables) → t .clock ≡ clock → t .entries ≡ entries → unchanged t r ≡ lookIn t (now (path .entry)) (hit 0 k)) ⌝ }
+{
+    let n = k.volume;
+    let mut i: usize = 0;
+    while i < 64 {
+        if entries[i].volume.0 == n.0 {
+            let e = entries[i];
+            if is_entry(e, n, path) {
+                return look_token(clock, k, true, e, path);
+            }
+        }
+        i += 1;
+    }
+    let none = fresh_entry();
+    look_token(clock, k, false, none, path)
 }
 
 // The size and the hash of the object at the path, by the token n.
@@ -75,5 +103,6 @@ pub fn look_on(t: Tables, n: TokenNo, path: &[u8]) -> Answer
         return refusal(NO_TOKEN);
     };
     let k = rows[i];
-    look_token(t, k, path)
+    let entries = t.entries;
+    look_in(t.clock, k, entries, path)
 }

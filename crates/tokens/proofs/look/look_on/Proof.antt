@@ -1,14 +1,15 @@
 -- `look::look_on` meets its contract: its path, then the row of its token. Assumes nothing.
-use Rattle.rules.specs.TokenCalls.{lookRule, lookIn}
+use Rattle.rules.specs.TokenCalls.{lookRule}
 use Rattle.rules.specs.Tables.{tokenOf}
 use Rattle.lists.specs.AnswerLaws.{checks, in-table}
-use Rattle.tokens.proofs.RowAnswers.{look-none, look-at, refuses}
+use Rattle.tokens.proofs.LookLaws.{look-none, look-at}
+use Rattle.tokens.proofs.RowAnswers.{refuses}
 use borrow.Author.Needs.{needs}
 use Rattle.tokens.proofs.look.look_on.Statement.{statement}
 use Rattle.tokens.proofs.look.look_on.Tie as tie
 
 pub look-on-spec : {M : Type 1} → statement M
-unfolding lookRule lookIn tokenOf
+unfolding lookRule tokenOf
 look-on-spec =
     tie.close
     (tie.spec

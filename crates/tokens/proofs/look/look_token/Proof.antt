@@ -1,6 +1,7 @@
 -- `look::look_token` meets its contract: its checks in order. Assumes nothing.
 use Rattle.rules.specs.TokenCalls.{lookIn}
 use Rattle.lists.specs.AnswerLaws.{checks}
+use Rattle.tokens.proofs.LookLaws.{window-shut, window-open, entry-told}
 use Rattle.tokens.proofs.RowAnswers.{refuses}
 use borrow.Author.Needs.{needs}
 use Rattle.tokens.proofs.look.look_token.Statement.{statement}
@@ -13,12 +14,12 @@ look-token-spec =
     (tie.spec
     (λ c κs. search needs)
     (λ c κs. search needs)
-    (λ c. search (checks, refuses))  -- WINDOW
+    (λ c t j e f. search (window-shut, checks, refuses))  -- WINDOW
     (λ c κs. search needs)
     (λ c κs. search needs)
-    (λ c. search (checks, refuses))  -- MODE
+    (λ c t j e f. search (window-open, checks, refuses))  -- MODE
     (λ c κs. search needs)
     (λ c κs. search needs)
-    (λ c. search (checks, refuses))  -- PREFIX
+    (λ c t j e f. search (window-open, checks, refuses))  -- PREFIX
     (λ c κs. search needs)
-    (λ c. search checks))  -- by the entry
+    (λ c t j e f. search (window-open, checks, entry-told)))  -- by the entry

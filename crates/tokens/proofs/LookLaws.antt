@@ -1,0 +1,92 @@
+-- Look: at the rows of its token and of its path, and in the tables. Assumes nothing.
+use mathlib.Core.Path.{_≡_, refl, sym, _∙_}
+use mathlib.Core.Bool.{Bool, true, false, not, cond}
+use mathlib.Core.List.{List}
+use Prim.Native.Nat.{ℕ, _<_, _≤_}
+use borrow.Author.Tests.{not-true, not-false}
+use lib.ListN.{getD}
+use Rattle.lists.specs.declared.Found.{Found}
+use Rattle.lists.specs.declared.Found.the-variants.{At, Nothing}
+use Rattle.lists.specs.Lists.{hit, miss, find, firstAt}
+use Rattle.lists.specs.LoopLaws.{FindLoop, find-end}
+use Rattle.lists.specs.SearchLaws.{first-row, first-miss}
+use Rattle.rules.specs.declared.Answer.{Answer}
+use Rattle.rules.specs.declared.VolumeNo.{VolumeNo}
+use Rattle.rules.specs.declared.TokenNo.{TokenNo}
+use Rattle.rules.specs.declared.Scope.{Scope}
+use Rattle.rules.specs.declared.Token.{Token}
+use Rattle.rules.specs.declared.Entry.{Entry}
+use Rattle.rules.specs.declared.Tables.{Tables}
+use Rattle.rules.specs.declared.TablesOutcome.{TablesOutcome}
+use Rattle.rules.specs.Fresh.{freshEntry}
+use Rattle.rules.specs.Numbers.{NO-TOKEN, NO-ENTRY}
+use Rattle.rules.specs.Outcome.{refusal, refused, successWith}
+use Rattle.rules.specs.Scope.{inWindow}
+use Rattle.rules.specs.Tables.{isToken, isEntry, tokenOf, entryOf}
+use Rattle.rules.specs.TokenCalls.{lookIn, lookEntry}
+use Rattle.rows.specs.Blank.{blankToken, blankEntry}
+use Rattle.rows.specs.EntryLaws.{entry-here}
+use Rattle.tokens.specs.Parts.{unchanged}
+
+-- the entry's row e, where it was found
+module _ (t : Tables) (j : ℕ) (found : Bool) (e : Entry) (r : Answer) where
+  pub entry-none : not found ≡ true → r ≡ refusal NO-ENTRY → unchanged t r ≡ lookEntry t (cond found (hit j e) miss)
+  unfolding lookEntry
+  entry-none q h = rw (not-true found q, h)
+
+  pub entry-at : not found ≡ false → r ≡ successWith (e .size) (e .hash) → unchanged t r ≡ lookEntry t (cond found (hit j e) miss)
+  unfolding lookEntry
+  entry-at q h = rw (not-false found q, h)
+
+  pub entry-told : (n : VolumeNo) (path : List ℕ) → entryOf n path t ≡ cond found (hit j e) miss
+      → ((u : Tables) (m : ℕ) → unchanged u r ≡ lookEntry u (cond found (hit m e) miss)) → unchanged t r ≡ lookEntry t (entryOf n path t)
+  entry-told n path h g = g t j ∙ sym (rw h)
+
+-- the window of a scope, where r says it of the clock y, which is x
+module _ (x y : ℕ) (s : Scope) (r : Bool) (e : x ≡ y) (h : r ≡ inWindow y s) where
+  pub window-shut : not r ≡ true → inWindow x s ≡ false
+  window-shut q = rw e (sym h ∙ not-true r q)
+
+  pub window-open : not r ≡ false → inWindow x s ≡ true
+  window-open q = rw e (sym h ∙ not-false r q)
+
+-- k is the row of the token n, where it is there
+module _ (t : Tables) (path : List ℕ) (n : TokenNo) (i : ℕ) (there : Bool) (k : Token) (h : tokenOf n t ≡ cond there (hit i k) miss) where
+  pub look-missed : (x : TablesOutcome) → not there ≡ true → x ≡ refused t NO-TOKEN → x ≡ lookIn t path (tokenOf n t)
+  unfolding lookIn
+  look-missed x q w = w ∙ sym (rw (h, not-true there q))
+
+  pub look-told : (clock j : ℕ) (found : Bool) (e : Entry) (r : Answer) → not there ≡ false → t .clock ≡ clock
+      → entryOf (k .volume) path t ≡ cond found (hit j e) miss
+      → ((u : Tables) (m : ℕ) → u .clock ≡ clock → entryOf (k .volume) path u ≡ cond found (hit m e) miss → unchanged u r ≡ lookIn u path (hit 0 k))
+      → unchanged t r ≡ lookIn t path (tokenOf n t)
+  unfolding lookIn
+  look-told clock j found e r q c w g = g t j c w ∙ sym (rw (h, not-false there q))
+
+-- by the token k: at the row i of the entries, and past their end
+module _ (t : Tables) (clock : ℕ) (es : List Entry) (c : t .clock ≡ clock) (v : t .entries ≡ es) (k : Token) (path : List ℕ) (i : ℕ) (r : Answer)
+    (h : FindLoop (isEntry (k .volume) path) es 64 i) where
+  pub look-here : (b : Bool) → b ≡ true → b ≡ isEntry (k .volume) path (getD es i blankEntry) → i < 64
+      → ((u : Tables) (m : ℕ) → u .clock ≡ clock → entryOf (k .volume) path u ≡ cond true (hit m (getD es i blankEntry)) miss → unchanged u r ≡ lookIn u path (hit 0 k))
+      → unchanged t r ≡ lookIn t path (hit 0 k)
+  unfolding entryOf
+  look-here b q w l g =
+      g t i c (rw v (first-row (isEntry (k .volume) path) es i (sym (entry-here (k .volume) path es i b q w l h)) blankEntry))
+
+  pub look-past : (e : Entry) → e ≡ freshEntry → 64 ≤ i
+      → ((u : Tables) (m : ℕ) → u .clock ≡ clock → entryOf (k .volume) path u ≡ cond false (hit m e) miss → unchanged u r ≡ lookIn u path (hit 0 k))
+      → unchanged t r ≡ lookIn t path (hit 0 k)
+  unfolding entryOf
+  look-past e q l g = g t i c (rw v (first-miss (isEntry (k .volume) path) es (sym (find-end (isEntry (k .volume) path) es 64 i h l))))
+
+-- f is what the search for the token n said
+module _ (t : Tables) (path : List ℕ) (n : TokenNo) (f : Found) (e : f ≡ firstAt (isToken n) 0 (t .tokens)) where
+  pub look-none : (x : TablesOutcome) → f ≡ Nothing → x ≡ refused t NO-TOKEN → x ≡ lookIn t path (find (isToken n) (t .tokens))
+  unfolding lookIn
+  look-none x w h = h ∙ sym (rw (first-miss (isToken n) (t .tokens) (sym e ∙ w)))
+
+  pub look-at : (i : ℕ) (r : Answer) → f ≡ At i
+      → ((u : Tables) → u .clock ≡ t .clock → u .entries ≡ t .entries → unchanged u r ≡ lookIn u path (hit 0 (getD (t .tokens) i blankToken)))
+      → unchanged t r ≡ lookIn t path (find (isToken n) (t .tokens))
+  unfolding lookIn
+  look-at i r w g = g t refl refl ∙ sym (rw (first-row (isToken n) (t .tokens) i (sym e ∙ w) blankToken))
