@@ -26,7 +26,7 @@ count-new-spec =
     (λ c. search counts-part)
     (λ c. search counts-part)
     (λ c κs. search needs)
-    (λ c. search (seek-start, rows-length, needs))
+    (λ c. search (seek-start, needs))
     (λ c. search (seek-size, needs))
     (λ c. search needs)
     (λ c. search (rows-length, needs))
