@@ -1,5 +1,6 @@
 pub mod FieldLaws
 pub mod FillLaws
+pub mod HeldLaws
 pub mod KeyLaws
 pub mod NumberLaws
 pub mod PlaceLaws

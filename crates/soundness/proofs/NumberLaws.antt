@@ -91,11 +91,17 @@ module _ (t : Tables) (b : Bool) where
   unfolding soundRelays
   relay-fails i h k e w = first-fails (allOf (soundRelay t) (t .relays)) (noClash sameRelayRow (t .relays)) (sym (all-failed blankRelay (soundRelay t) (t .relays) 32 i b h k e w))
 
-  pub relays-hold : (i : ℕ) (ns : List ℕ) → AllLoop (soundRelay t) (t .relays) 32 i → 32 ≤ i → ns ≡ map relayNumber (t .relays) → b ≡ noClash numbered ns
-      → b ≡ soundRelays t
+  -- two relays have the same number
+  pub relays-clash : b ≡ noClash numbered (map relayNumber (t .relays)) → not b ≡ true → false ≡ soundRelays t
   unfolding soundRelays
-  relays-hold i ns l k e h =
-      rw (← all-passed (soundRelay t) (t .relays) 32 i l k) (rw e at h ∙ clash-mapped relayNumber numbered (t .relays))
+  relays-clash h w =
+      next-fails (allOf (soundRelay t) (t .relays)) (noClash sameRelayRow (t .relays))
+      (sym (h ∙ clash-mapped relayNumber numbered (t .relays)) ∙ not-true b w)
+
+pub relays-hold : (t : Tables) (i : ℕ) → AllLoop (soundRelay t) (t .relays) 32 i → 32 ≤ i → noClash numbered (map relayNumber (t .relays)) ≡ true → true ≡ soundRelays t
+unfolding soundRelays
+relays-hold t i l k h =
+    sym (and-both (sym (all-passed (soundRelay t) (t .relays) 32 i l k)) (sym (clash-mapped relayNumber numbered (t .relays)) ∙ h))
 
 -- where no number is given, every row is free, and the relays are sound
 free-relay : (t : Tables) (x : Relay) → given (x .no .0) ≡ false → soundRelay t x ≡ true

@@ -1,18 +1,18 @@
 -- What the tests of the volumes and entries say of an entry's shards, and the loops over the entries. Assumes nothing.
 use mathlib.Core.Path.{_≡_, refl, sym, _∙_, ap}
 use mathlib.Core.Bool.{Bool, true, false, cond, _&&_, _||_}
-use mathlib.Core.List.{List, [], map}
-use Prim.Native.Nat.{ℕ, _+_, _*_, _^_, _<_, _≤_}
+use mathlib.Core.List.{List, map}
+use Prim.Native.Nat.{ℕ, _+_, _*_, _/_, _%_, _^_, _<_, _≤_}
 use mir.Val.{Fits}
 use mir.Syntax.{w32, w64}
 use native.Mathlib.Omega.{arith}
 use borrow.Author.Needs.{needs}
 use borrow.Author.Tests.{ltb-true, leb-true, eqb-true, ne-eqb}
 use lib.Dec.{eqb, leb}
-use lib.ListN.{length, getD, set, replicate, length-set}
+use lib.ListN.{length, getD, set, replicate, length-set, length-map}
 use Rattle.lists.specs.declared.Found.{Found}
 use Rattle.lists.specs.declared.Found.the-variants.{At, Nothing}
-use Rattle.lists.specs.Lists.{Hit, firstAt, allOf, anyOf, noClash, find, hit, miss, sumOf}
+use Rattle.lists.specs.Lists.{Hit, firstAt, allOf, noClash, find, hit, miss, sumOf}
 use Rattle.lists.specs.SumLaws.{bit-lt, sum-le}
 use Rattle.lists.specs.LoopLaws.{SumLoop, sum-start, sum-adds, sum-skips, sum-within, sum-all}
 use Rattle.lists.specs.RowLaws.{rows-length, map-row}
@@ -32,12 +32,12 @@ use Rattle.rules.specs.Relays.{shardSize, shardBytes, holdsShard, bytesOn, shar
 use Rattle.rules.specs.Sound.{isGiven, shardsFit, soundStatus, soundVolume, soundVolumes, sameVolume, sameName, soundIn, soundEntry, soundEntries, sameEntry}
 use Rattle.rules.specs.Laws.CeilLaws.{ceil-most}
 use Rattle.rows.specs.ShardBytes.{shard-none, shard-some, bytes-none, bytes-at}
-use Rattle.soundness.specs.Numbers.{volumeNumber, volumeK}
-use Rattle.soundness.specs.Places.{sameNumber, placesOf}
+use Rattle.soundness.specs.Numbers.{volumeNumber, volumeK, relayNumber}
+use Rattle.soundness.specs.Held.{heldSet}
 use Rattle.soundness.proofs.FillLaws.{fill-zero, fill-stored}
 use Rattle.soundness.proofs.FieldLaws.{in-rows, field-at}
-use Rattle.soundness.proofs.PlaceLaws.{place-among}
-use Rattle.rows.specs.Blank.{blankVolume, blankEntry}
+use Rattle.soundness.proofs.HeldLaws.{held-told, held-among}
+use Rattle.rows.specs.Blank.{blankVolume, blankEntry, blankRelay}
 
 -- a used row that is sound passes what comes after the test for a free one
 used-row : (free rest : Bool) → free ≡ false → (free || rest) ≡ true → rest ≡ true
@@ -202,30 +202,39 @@ held-small n es l = rw l at (sum-le (shardsOn n) 1 es blankEntry (λ j b. shards
 abbrev pub entryAt : Tables → ℕ → Entry
 entryAt t i = getD (t .entries) i blankEntry
 
--- sound tables, whose shards have the sizes ss and the places ps
-pub record Sized (t : Tables) (ss : List ℕ) (ps : List (List ℕ)) : Type 0 where
+-- sound tables, whose shards have the sizes ss; hs are the sets of the relays that hold the shards of each entry
+pub record Sized (t : Tables) (ss hs : List ℕ) : Type 0 where
   pub size : length (t .entries) ≡ 64
+  pub rows : length (t .relays) ≡ 32
   pub sized : ss ≡ map (shardBytes (t .volumes)) (t .entries)
-  pub placed : ps ≡ map placesOf (t .entries)
+  pub differ : noClash numbered (map relayNumber (t .relays)) ≡ true
+  pub held : hs ≡ map (heldSet (map relayNumber (t .relays))) (t .entries)
   pub volumes : soundVolumes t ≡ true
   pub entries : soundEntries t ≡ true
 
--- the loop that sums a relay's load over their entries
-pub record LoadLoop (t : Tables) (ss : List ℕ) (ps : List (List ℕ)) (n : RelayNo) (bytes shards i : ℕ) : Type 0 where
-  pub known : Sized t ss ps
-  pub used : n .0 ≡ 0 → ⊥
-  pub summed : SumLoop (bytesOn (t .volumes) n) (t .entries) 64 i bytes
-  pub counted : SumLoop (shardsOn n) (t .entries) 64 i shards
+-- the loop that sums the load of the relay x over their entries, at the entry i
+pub record LoadLoop (t : Tables) (ss hs : List ℕ) (x bytes shards i : ℕ) : Type 0 where
+  pub known : Sized t ss hs
+  pub place : x < 32
+  pub used : getD (t .relays) x blankRelay .no .0 ≡ 0 → ⊥
+  pub summed : SumLoop (bytesOn (t .volumes) (getD (t .relays) x blankRelay .no)) (t .entries) 64 i bytes
+  pub counted : SumLoop (shardsOn (getD (t .relays) x blankRelay .no)) (t .entries) 64 i shards
 
-module _ (t : Tables) (ss : List ℕ) (ps : List (List ℕ)) (n : RelayNo) where
-  pub load-start : Sized t ss ps → (n .0 ≡ 0 → ⊥) → LoadLoop t ss ps n 0 0 0
-  load-start k u = record { known = k; used = u; summed = sum-start _ _ 64 (k .size); counted = sum-start _ _ 64 (k .size) }
+module _ (t : Tables) (ss hs : List ℕ) (x : ℕ) where
+  abbrev n : RelayNo
+  n = getD (t .relays) x blankRelay .no
 
-  module _ (bytes shards i : ℕ) (h : LoadLoop t ss ps n bytes shards i) where
-    pub load-bytes : 64 ≤ i → bytes ≡ sumOf (bytesOn (t .volumes) n) (t .entries)
+  abbrev ns : List ℕ
+  ns = map relayNumber (t .relays)
+
+  pub load-start : Sized t ss hs → x < 32 → (getD (t .relays) x blankRelay .no .0 ≡ 0 → ⊥) → LoadLoop t ss hs x 0 0 0
+  load-start k w u = record { known = k; place = w; used = u; summed = sum-start _ _ 64 (k .size); counted = sum-start _ _ 64 (k .size) }
+
+  module _ (bytes shards i : ℕ) (h : LoadLoop t ss hs x bytes shards i) where
+    pub load-bytes : 64 ≤ i → bytes ≡ sumOf (bytesOn (t .volumes) (getD (t .relays) x blankRelay .no)) (t .entries)
     load-bytes k = sum-all (bytesOn (t .volumes) n) (t .entries) 64 i bytes (h .summed) k
 
-    pub load-shards : 64 ≤ i → shards ≡ sumOf (shardsOn n) (t .entries)
+    pub load-shards : 64 ≤ i → shards ≡ sumOf (shardsOn (getD (t .relays) x blankRelay .no)) (t .entries)
     load-shards k = sum-all (shardsOn n) (t .entries) 64 i shards (h .counted) k
 
     module _ (k : i < 64) where
@@ -233,13 +242,19 @@ module _ (t : Tables) (ss : List ℕ) (ps : List (List ℕ)) (n : RelayNo) where
       size-at =
           ap (λ (l : List ℕ). getD l i 0) (h .known .sized) ∙ map-row (shardBytes (t .volumes)) (t .entries) i blankEntry 0 (omega (arith, h .summed .size))
 
-      module _ (r : Bool) (told : r ≡ anyOf (sameNumber (n .0)) (getD ps i [])) where
+      held-at : getD hs i 0 ≡ heldSet ns (entryAt t i)
+      held-at = ap (λ (l : List ℕ). getD l i 0) (h .known .held) ∙ map-row (heldSet ns) (t .entries) i blankEntry 0 (omega (arith, h .summed .size))
+
+      number-at : getD ns x 0 ≡ n .0
+      number-at = map-row relayNumber (t .relays) x blankRelay 0 (omega (arith, h .known .rows, h .place))
+
+      module _ (r : Bool) (told : r ≡ eqb (getD hs i 0 / 2 ^ x % 2) 1) where
         q : r ≡ (usedEntry (entryAt t i) && holdsShard n (entryAt t i .placement))
         q =
-            told
-            ∙ ap (λ (l : List (List ℕ)). anyOf (sameNumber (n .0)) (getD l i [])) (h .known .placed)
-            ∙ ap (anyOf (sameNumber (n .0))) (map-row placesOf (t .entries) i blankEntry [] (omega (arith, h .summed .size)))
-            ∙ place-among (entryAt t i) n (h .used)
+            held-told ns (entryAt t i) x (getD hs i 0) r
+            (omega (arith, length-map (t .relays) relayNumber, h .known .rows, h .place))
+            held-at told
+            ∙ rw number-at (held-among (entryAt t i) n (h .used))
 
         pub bytes-fit : r ≡ true → Fits w64 (bytes + getD ss i 0)
         bytes-fit w =
@@ -252,20 +267,22 @@ module _ (t : Tables) (ss : List ℕ) (ps : List (List ℕ)) (n : RelayNo) where
             record { fits = omega (arith, m, shard-on n (entryAt t i) (sym q ∙ w), held-small n (t .entries) (h .counted .size)) }
 
         module _ (b′ s′ : ℕ) where
-          pub load-on : r ≡ true → b′ ≡ bytes + getD ss i 0 → s′ ≡ shards + 1 → LoadLoop t ss ps n b′ s′ (i + 1)
+          pub load-on : r ≡ true → b′ ≡ bytes + getD ss i 0 → s′ ≡ shards + 1 → LoadLoop t ss hs x b′ s′ (i + 1)
           load-on w f g =
               record {
                 known = h .known;
+                place = h .place;
                 used = h .used;
                 summed = sum-adds blankEntry _ _ 64 i bytes (getD ss i 0) b′ (h .summed) k (size-at ∙ bytes-on n (entryAt t i) (t .volumes) (sym q ∙ w)) f;
                 counted = sum-adds blankEntry _ _ 64 i shards 1 s′ (h .counted) k (shard-on n (entryAt t i) (sym q ∙ w)) g;
               }
 
-          pub load-off : r ≡ false → b′ ≡ bytes → s′ ≡ shards → LoadLoop t ss ps n b′ s′ (i + 1)
+          pub load-off : r ≡ false → b′ ≡ bytes → s′ ≡ shards → LoadLoop t ss hs x b′ s′ (i + 1)
           load-off w f g =
               rw (f, g)
               (record {
                 known = h .known;
+                place = h .place;
                 used = h .used;
                 summed = sum-skips blankEntry _ _ 64 i bytes (h .summed) k (sym (bytes-off n (entryAt t i) (t .volumes) (sym q ∙ w)));
                 counted = sum-skips blankEntry _ _ 64 i shards (h .counted) k (sym (shard-off n (entryAt t i) (sym q ∙ w)));

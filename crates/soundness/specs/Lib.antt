@@ -1,3 +1,4 @@
 pub mod Numbers
 pub mod PathKeys
 pub mod Places
+pub mod Held

@@ -5,6 +5,7 @@ ghost use mathlib.Core.Path.{_≡_};
 ghost use Rattle.rules.specs.Sound.{sound};
 
 mod entry_test;
+mod held;
 mod numbers;
 mod path_keys;
 mod placements;

@@ -2,15 +2,17 @@
 ghost use mathlib.Core.Path.{_≡_};
 ghost use mathlib.Core.Bool.{true};
 ghost use mathlib.Core.List.{map};
-ghost use Rattle.lists.specs.Lists.{sumOf};
+ghost use Rattle.lists.specs.Lists.{noClash, sumOf};
+ghost use Rattle.rules.specs.Tables.{numbered};
+ghost use Rattle.soundness.specs.Numbers.{relayNumber};
 ghost use Rattle.rules.specs.Relays.{shardBytes, bytesOn, shardsOn};
 ghost use Rattle.rules.specs.Sound.{soundVolumes, soundEntries, soundRelay, soundRelays};
+use super::held::in_set;
+use super::held::relay_sets;
 use super::numbers::any_number;
 use super::numbers::numbers_differ;
 use super::numbers::relay_numbers;
-use super::placements::among;
 use super::shards::Load;
-use super::shards::all_places;
 use super::shards::shard_sizes;
 use rows::is_given;
 use rules::Relay;
@@ -42,15 +44,26 @@ fn sound_relay(t: Tables, x: Relay, load: Load) -> bool
     x.held == load.shards
 }
 
-// Of tables whose shards have these sizes. A relay's load is summed here and by no function of its own, which would copy the places
+// No number of a relay is held twice.
+fn relays_differ(rows: [Relay; 32]) -> bool
+    ensures { λ r. ⌜ r ≡ noClash numbered (map relayNumber rows) ⌝ }
+{
+    let numbers = relay_numbers(rows);
+    numbers_differ(&numbers)
+}
+
+// Of tables whose shards have these sizes. A relay's load is summed here and by no function of its own, which would copy the sets
 // for each relay.
 fn relays_hold(t: Tables, sizes: [u64; 64]) -> bool
     requires { ⌜ (sizes ≡ map (shardBytes (t .volumes)) (t .entries)) × (soundVolumes t ≡ true) × (soundEntries t ≡ true) ⌝ }
     ensures { λ r. ⌜ r ≡ soundRelays t ⌝ }
 {
     let rows = t.relays;
+    if !relays_differ(rows) {
+        return false;
+    }
     let entries = t.entries;
-    let places = all_places(entries);
+    let sets = relay_sets(rows, entries);
     let mut i: usize = 0;
     while i < 32 {
         let x = rows[i];
@@ -60,7 +73,7 @@ fn relays_hold(t: Tables, sizes: [u64; 64]) -> bool
             let mut shards: u32 = 0;
             let mut j: usize = 0;
             while j < 64 {
-                if among(&places[j][..], n.0) {
+                if in_set(sets[j], i) {
                     bytes += sizes[j];
                     shards += 1;
                 }
@@ -72,8 +85,7 @@ fn relays_hold(t: Tables, sizes: [u64; 64]) -> bool
         }
         i += 1;
     }
-    let numbers = relay_numbers(rows);
-    numbers_differ(&numbers)
+    true
 }
 
 pub(crate) fn sound_relays(t: Tables) -> bool

@@ -1,4 +1,4 @@
-// The bytes of each entry's shards, and the relays that they are on.
+// The bytes of each entry's shards.
 ghost use mathlib.Core.Path.{_≡_};
 ghost use mathlib.Core.List.{List, map};
 ghost use lib.ListN.{length};
@@ -6,15 +6,12 @@ ghost use Rattle.rules.specs.declared.Entry.{Entry};
 ghost use Rattle.rules.specs.declared.Volume.{Volume};
 ghost use Rattle.rules.specs.Relays.{shardBytes};
 ghost use Rattle.soundness.specs.Numbers.{volumeNumber, volumeK};
-ghost use Rattle.soundness.specs.Places.{placesOf};
 use super::numbers::volume_ks;
 use super::numbers::volume_numbers;
-use super::placements::place_numbers;
 use lists::Found;
 use rows::find_number;
 use rows::shard_size;
 use rows::wide;
-use rules::Entry;
 use rules::Tables;
 
 // The bytes and the shards that a relay has.
@@ -51,29 +48,4 @@ pub(crate) fn shard_sizes(t: Tables) -> [u64; 64]
         i += 1;
     }
     sizes
-}
-
-// The relays' numbers of an entry's places: 0 where there is no shard.
-fn places_of(e: Entry) -> [u32; 24]
-    ensures { λ r. ⌜ r ≡ placesOf e ⌝ }
-{
-    if e.volume.0 == 0 {
-        return [0u32; 24];
-    }
-    let p = e.placement;
-    place_numbers(p)
-}
-
-pub(crate) fn all_places(rows: [Entry; 64]) -> [[u32; 24]; 64]
-    ensures { λ r. ⌜ r ≡ map placesOf rows ⌝ }
-{
-    let none = [0u32; 24];
-    let mut places = [none; 64];
-    let mut i: usize = 0;
-    while i < 64 {
-        let e = rows[i];
-        places[i] = places_of(e);
-        i += 1;
-    }
-    places
 }

@@ -1,0 +1,25 @@
+-- The relays of a table that hold the shards of an entry, one bit for each row. Assumes nothing.
+use mathlib.Core.Path.{_≡_}
+use mathlib.Core.Bool.{Bool, true}
+use mathlib.Core.List.{List}
+use Prim.Native.Nat.{ℕ, _<_}
+use lib.ListN.{length, getD}
+use Rattle.lists.specs.Lists.{anyOf, noClash, bitSet}
+use Rattle.rules.specs.declared.Entry.{Entry}
+use Rattle.rules.specs.Tables.{numbered}
+use Rattle.soundness.specs.Places.{placesOf}
+
+-- whether the relay of this number has one of the places
+unfoldable pub onPlace : List ℕ → ℕ → Bool
+onPlace ps x = anyOf (numbered x) ps
+
+-- the relays of these numbers that hold a shard of the entry
+unfoldable pub heldSet : List ℕ → Entry → ℕ
+heldSet ns e = bitSet (onPlace (placesOf e)) ns
+
+-- the numbers of the relays, no two of them the same, and for each remainder by 256 a row
+pub record RowTable (ns table : List ℕ) : Type 0 where
+  pub size : length ns ≡ 32
+  pub slots : length table ≡ 256
+  pub below : (j : ℕ) → getD table j 0 < 32
+  pub differ : noClash numbered ns ≡ true

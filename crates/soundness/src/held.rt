@@ -1,0 +1,103 @@
+// The relays that hold the shards of each entry, one bit for each row of the relay table.
+ghost use mathlib.Core.Path.{_≡_};
+ghost use mathlib.Core.Bool.{true};
+ghost use mathlib.Core.List.{map};
+ghost use Prim.Native.Nat.{ℕ, _<_, _/_, _%_, _^_};
+ghost use lib.Dec.{eqb};
+ghost use lib.ListN.{getD};
+ghost use Rattle.lists.specs.Lists.{noClash, bitSet};
+ghost use Rattle.rules.specs.Tables.{numbered};
+ghost use Rattle.soundness.specs.Numbers.{relayNumber};
+ghost use Rattle.soundness.specs.Held.{onPlace, heldSet, RowTable};
+use super::numbers::relay_numbers;
+use super::numbers::wide;
+use super::placements::place_numbers;
+use lists::Found;
+use rows::find_number;
+use rules::Entry;
+use rules::Relay;
+
+// For each remainder by 256 the row of a relay whose number has it, or 0.
+fn rows_by(rows: [Relay; 32]) -> [usize; 256]
+    ensures { λ r. ⌜ ((j : ℕ) → getD r j 0 < 32) ⌝ }
+{
+    let mut table = [0usize; 256];
+    let mut i: usize = 0;
+    while i < 32 {
+        let r = (rows[i].no.0 % 256) as usize;
+        table[r] = i;
+        i += 1;
+    }
+    table
+}
+
+// The row of the relay of this number: by its remainder, and by a search where that finds another.
+fn place_set(numbers: &[u64], table: &[usize], n: u32) -> u32
+    requires { ⌜ RowTable (now numbers) (now table) ⌝ }
+    ensures { λ r. ⌜ r ≡ bitSet (numbered n) (now (numbers .entry)) ⌝ }
+{
+    if n == 0 {
+        return 0;
+    }
+    let r = (n % 256) as usize;
+    let k = table[r];
+    if numbers[k] == wide(n) {
+        return 1 << k;
+    }
+    let Found::At(i) = find_number(numbers, wide(n)) else {
+        return 0;
+    };
+    1 << i
+}
+
+// The rows of the relays of these numbers.
+fn places_set(numbers: &[u64], table: &[usize], places: &[u32]) -> u32
+    requires { ⌜ RowTable (now numbers) (now table) ⌝ }
+    ensures { λ r. ⌜ r ≡ bitSet (onPlace (now (places .entry))) (now (numbers .entry)) ⌝ }
+{
+    let mut set: u32 = 0;
+    let mut p: usize = 0;
+    while p < places.len() {
+        let one = place_set(numbers, table, places[p]);
+        set |= one;
+        p += 1;
+    }
+    set
+}
+
+// The rows of the relays that hold the entry's shards. A free row has none.
+fn held_sets(rows: [Entry; 64], numbers: &[u64], table: &[usize]) -> [u32; 64]
+    requires { ⌜ RowTable (now numbers) (now table) ⌝ }
+    ensures { λ r. ⌜ r ≡ map (heldSet (now (numbers .entry))) rows ⌝ }
+{
+    let mut sets = [0u32; 64];
+    let mut i: usize = 0;
+    while i < 64 {
+        let e = rows[i];
+        if e.volume.0 != 0 {
+            let p = e.placement;
+            let places = place_numbers(p);
+            sets[i] = places_set(numbers, table, &places);
+        }
+        i += 1;
+    }
+    sets
+}
+
+// For each entry the rows of the relays that hold its shards.
+pub(crate) fn relay_sets(rows: [Relay; 32], entries: [Entry; 64]) -> [u32; 64]
+    requires { ⌜ noClash numbered (map relayNumber rows) ≡ true ⌝ }
+    ensures { λ r. ⌜ r ≡ map (heldSet (map relayNumber rows)) entries ⌝ }
+{
+    let numbers = relay_numbers(rows);
+    let table = rows_by(rows);
+    held_sets(entries, &numbers, &table)
+}
+
+// Whether the row's bit is set.
+pub(crate) fn in_set(set: u32, i: usize) -> bool
+    requires { ⌜ i < 32 ⌝ }
+    ensures { λ r. ⌜ r ≡ eqb (set / 2 ^ i % 2) 1 ⌝ }
+{
+    (set >> i) % 2 == 1
+}
