@@ -158,6 +158,9 @@ module _ (ns : List ℕ) (rs : List Relay) (e : ns ≡ map relayNumber rs) where
   pub relays-apart : (b : Bool) → b ≡ noClash numbered ns → b ≡ noClash numbered (map relayNumber rs)
   relays-apart b h = rw e at h
 
+  pub relays-any : (b : Bool) → b ≡ anyOf given ns → b ≡ anyOf given (map relayNumber rs)
+  relays-any b h = rw e at h
+
   pub relays-held : (hs : List ℕ) (es : List Entry) → hs ≡ map (heldSet ns) es → hs ≡ map (heldSet (map relayNumber rs)) es
   relays-held hs es h = rw e at h
 

@@ -1,6 +1,6 @@
 -- What keys that differ say of two entries, and the loop that stores the keys. Assumes nothing.
 use mathlib.Core.Path.{_≡_, refl, sym, _∙_, ap}
-use mathlib.Core.Bool.{Bool, true, false, not}
+use mathlib.Core.Bool.{Bool, true, false, not, _&&_}
 use mathlib.Core.Logic.{⊎-elim}
 use mathlib.Core.List.{List, map}
 use Prim.Native.Nat.{ℕ, _+_, _<_, _≤_}
@@ -12,7 +12,7 @@ use Rattle.lists.specs.Bytes.{sameBytes}
 use Rattle.lists.specs.ByteLaws.{same-eq}
 use Rattle.lists.specs.BoolLaws.{and-left, and-right, and-both, not-both, not-pass, pass-or-fail}
 use Rattle.lists.specs.Lists.{anyOf, noClash}
-use Rattle.lists.specs.TestLaws.{at-none, none-at, at-all, at-clash}
+use Rattle.lists.specs.TestLaws.{at-none, none-at, at-all, at-clash, clash-at}
 use Rattle.lists.specs.RowLaws.{map-row}
 use Rattle.lists.specs.AnswerLaws.{part-fails}
 use Rattle.lists.specs.LoopLaws.{AnyLoop, any-found, any-step, any-none, ClashLoop, clash-found, clash-step}
@@ -85,6 +85,19 @@ module _ (es : List Entry) (i : ℕ) (h : ClashLoop sameEntry es 64 i) (k : i < 
         (part-fails (given (pathKey (getD es i blankEntry))) (eqb (pathKey (getD es j blankEntry)) (pathKey (getD es i blankEntry)))
         (rw (key-at j w, key-at i k) at (ne-eqb (getD ks j 0) (getD ks i 0) n)))))
         refl
+
+-- no two keys are the same: nor are two entries
+pub keys-apart : (es : List Entry) (ks : List ℕ) (b : Bool) → ks ≡ map pathKey es → b ≡ noClash numbered ks → b ≡ true → noClash sameEntry es ≡ true
+keys-apart es ks b e h t =
+    at-clash sameEntry es blankEntry
+    (λ i j k l.
+    let same = length-map es pathKey in
+    other-key (getD es i blankEntry) (getD es j blankEntry)
+    (sym (rw (map-row pathKey es i blankEntry 0 (omega arith), map-row pathKey es j blankEntry 0 l)
+    at (clash-at numbered (map pathKey es) (sym (rw e at h) ∙ t) i j k (omega arith) 0))))
+
+pub both-hold : (a b : Bool) → a ≡ true → b ≡ true → true ≡ (a && b)
+both-hold a b e f = sym (and-both e f)
 
 -- a turn of the loop that stores the keys: a free row's is there already
 free-key : (e : Entry) → e .volume .0 ≡ 0 → pathKey e ≡ 0

@@ -1,5 +1,5 @@
 -- Tests of a table's rows by their numbers alone, where the numbers stand in a list of their own. Assumes nothing.
-use mathlib.Core.Path.{_≡_, refl, sym, _∙_, ap}
+use mathlib.Core.Path.{_≡_, refl, sym, _∙_}
 use mathlib.Core.Bool.{Bool, true, false, not, _&&_}
 use mathlib.Core.List.{List, [], _∷_, map}
 use Prim.Native.Nat.{ℕ, _+_, _<_, _≤_}
@@ -111,13 +111,13 @@ free-relay t x h = let z : x .no .0 ≡ 0 = omega (arith, ltb-false 0 (x .no .0)
 free-row : (x y : Relay) → given (x .no .0) ≡ false → sameRelayRow x y ≡ false
 free-row x y h = rw h
 
-pub no-relays : (t : Tables) (ns : List ℕ) (b : Bool) → ns ≡ map relayNumber (t .relays) → b ≡ anyOf given ns → not b ≡ true → true ≡ soundRelays t
+pub no-relays : (t : Tables) (b : Bool) → b ≡ anyOf given (map relayNumber (t .relays)) → not b ≡ true → true ≡ soundRelays t
 unfolding soundRelays
-no-relays t ns b e h w =
+no-relays t b h w =
     sym (and-both (at-all (soundRelay t) (t .relays) blankRelay (λ j k. free-relay t _ (free j k)))
     (at-clash sameRelayRow (t .relays) blankRelay (λ i j k l. free-row (getD (t .relays) i blankRelay) (getD (t .relays) j blankRelay) (free i (omega arith)))))
   where
     free : (j : ℕ) → j < length (t .relays) → given (getD (t .relays) j blankRelay .no .0) ≡ false
     free j k =
-        let none = none-at given ns (sym h ∙ not-true b w) j (omega (arith, ap (λ (l : List ℕ). length l) e, length-map (t .relays) relayNumber)) 0 in
-        rw (ap (λ (l : List ℕ). getD l j 0) e, map-row relayNumber (t .relays) j blankRelay 0 k) at none
+        let none = none-at given (map relayNumber (t .relays)) (sym h ∙ not-true b w) j (omega (arith, length-map (t .relays) relayNumber)) 0 in
+        rw (map-row relayNumber (t .relays) j blankRelay 0 k) at none

@@ -9,6 +9,7 @@ ghost use Rattle.rules.specs.declared.Tables.{Tables};
 ghost use Rattle.rules.specs.Tables.{isVolume};
 ghost use Rattle.rules.specs.Sound.{soundIn, soundEntry, soundEntries, sameEntry};
 use super::numbers::any_number;
+use super::numbers::numbers_differ;
 use super::numbers::volume_numbers;
 use super::numbers::volume_widths;
 use super::path_keys::path_keys;
@@ -109,7 +110,7 @@ fn paths_differ(rows: [Entry; 64], keys: [u64; 64]) -> bool
     true
 }
 
-// Where every key is 0, every row is free.
+// Where every key is 0, every row is free, and where no two keys are the same, no two paths are.
 pub(crate) fn sound_entries(t: Tables) -> bool
     ensures { λ r. ⌜ r ≡ soundEntries t ⌝ }
 {
@@ -120,6 +121,9 @@ pub(crate) fn sound_entries(t: Tables) -> bool
     }
     if !all_entries(t) {
         return false;
+    }
+    if numbers_differ(&keys) {
+        return true;
     }
     paths_differ(rows, keys)
 }

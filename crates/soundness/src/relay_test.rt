@@ -2,8 +2,8 @@
 ghost use mathlib.Core.Path.{_≡_};
 ghost use mathlib.Core.Bool.{true};
 ghost use mathlib.Core.List.{map};
-ghost use Rattle.lists.specs.Lists.{noClash, sumOf};
-ghost use Rattle.rules.specs.Tables.{numbered};
+ghost use Rattle.lists.specs.Lists.{anyOf, noClash, sumOf};
+ghost use Rattle.rules.specs.Tables.{given, numbered};
 ghost use Rattle.soundness.specs.Numbers.{relayNumber};
 ghost use Rattle.rules.specs.Relays.{shardBytes, bytesOn, shardsOn};
 ghost use Rattle.rules.specs.Sound.{soundVolumes, soundEntries, soundRelay, soundRelays};
@@ -88,15 +88,18 @@ fn relays_hold(t: Tables, sizes: [u64; 64]) -> bool
     true
 }
 
+// Whether some row holds a relay.
+pub(crate) fn any_relays(rows: [Relay; 32]) -> bool
+    ensures { λ r. ⌜ r ≡ anyOf given (map relayNumber rows) ⌝ }
+{
+    let numbers = relay_numbers(rows);
+    any_number(&numbers)
+}
+
 pub(crate) fn sound_relays(t: Tables) -> bool
     requires { ⌜ (soundVolumes t ≡ true) × (soundEntries t ≡ true) ⌝ }
     ensures { λ r. ⌜ r ≡ soundRelays t ⌝ }
 {
-    let rows = t.relays;
-    let numbers = relay_numbers(rows);
-    if !any_number(&numbers) {
-        return true;
-    }
     let sizes = shard_sizes(t);
     relays_hold(t, sizes)
 }

@@ -2,6 +2,7 @@
 ghost use mathlib.Core.Path.{_≡_};
 ghost use Rattle.rules.specs.Sound.{soundCounts, soundTables};
 use super::entry_test::sound_entries;
+use super::relay_test::any_relays;
 use super::relay_test::sound_relays;
 use super::token_test::sound_tokens;
 use super::volume_test::sound_volumes;
@@ -41,6 +42,10 @@ pub(crate) fn sound_tables(t: Tables) -> bool
     }
     if !sound_entries(t) {
         return false;
+    }
+    let rows = t.relays;
+    if !any_relays(rows) {
+        return true;
     }
     sound_relays(t)
 }

@@ -1,6 +1,6 @@
 use Rattle.rules.specs.Sound.{soundEntries}
-use Rattle.lists.specs.AnswerLaws.{refused, passed}
-use Rattle.soundness.proofs.KeyLaws.{no-entries}
+use Rattle.lists.specs.AnswerLaws.{refused, passed, said-yes}
+use Rattle.soundness.proofs.KeyLaws.{no-entries, keys-apart, both-hold}
 use borrow.Author.Needs.{needs}
 use Rattle.soundness.proofs.entry_test.sound_entries.Statement.{statement}
 use Rattle.soundness.proofs.entry_test.sound_entries.Tie as tie
@@ -16,5 +16,8 @@ sound-entries-spec =
     (λ c. search no-entries)
     (λ c κs. search needs)
     (λ c. search refused depth 9)
+    (λ c. search needs)
+    (λ c κs. search needs)
+    (λ c. search (keys-apart, both-hold, said-yes))
     (λ c κs. search needs)
     (λ c. search passed depth 9))
