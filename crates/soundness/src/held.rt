@@ -10,10 +10,10 @@ ghost use Rattle.rules.specs.Tables.{numbered};
 ghost use Rattle.soundness.specs.Numbers.{relayNumber};
 ghost use Rattle.soundness.specs.Held.{onPlace, heldSet, RowTable};
 use super::numbers::relay_numbers;
-use super::numbers::wide;
 use super::placements::place_numbers;
 use lists::Found;
 use rows::find_number;
+use rows::wide;
 use rules::Entry;
 use rules::Relay;
 
