@@ -4,7 +4,7 @@ use mathlib.Core.Bool.{Bool, true, false, _&&_, _||_}
 use mathlib.Core.Logic.{⊎-elim}
 use mathlib.Core.List.{List, [], _∷_, map}
 use Prim.Native.Nat.{ℕ, zero, suc, _+_, _-_, _*_, _/_, _%_, _^_, _<_, _≤_, max}
-use native.Mathlib.Nat.{pow-suc, mod-eq-of-lt, not-suc-le-zero, le-of-suc-le-suc}
+use native.Mathlib.Nat.{eq-or-lt-of-le, pow-suc, mod-eq-of-lt, not-suc-le-zero, le-of-suc-le-suc}
 use native.Mathlib.Numerals.{add-one}
 use native.Mathlib.Omega.{arith}
 use mir.Val.{Fits}
@@ -22,6 +22,7 @@ use Rattle.lists.specs.Lists.{bit, bitSet, firstAt, anyOf, noClash}
 use Rattle.lists.specs.BoolLaws.{and-left, and-right, and-both, not-pass, pass-or-fail, same-test}
 use Rattle.lists.specs.SearchLaws.{first-row, first-miss, first-below, miss-none, row-passes}
 use Rattle.lists.specs.SumLaws.{bit-lt}
+use Rattle.lists.specs.RowLaws.{map-row, rows-length}
 use Rattle.lists.specs.BitLaws.{has-test}
 use Rattle.lists.specs.TestLaws.{none-at, any-append, any-replicate, clash-one}
 use Rattle.rules.specs.Tables.{given, numbered, usedEntry}
@@ -29,13 +30,13 @@ use Rattle.rules.specs.declared.Entry.{Entry}
 use Rattle.rules.specs.declared.RelayNo.{RelayNo}
 use Rattle.rules.specs.declared.Relay.{Relay}
 use Rattle.rules.specs.Relays.{holdsShard}
-use Rattle.rows.specs.Blank.{blankEntry}
+use Rattle.rows.specs.Blank.{blankEntry, blankRelay}
 use Rattle.lists.specs.ByteLoopLaws.{FillLoop}
 use Rattle.soundness.specs.Numbers.{relayNumber}
 use Rattle.soundness.specs.Places.{sameNumber, placeNumbers, placesOf}
 use Rattle.soundness.proofs.PlaceLaws.{place-among}
 use Rattle.soundness.proofs.FillLaws.{fill-zero, fill-stored}
-use Rattle.soundness.specs.Held.{onPlace, heldSet, RowTable}
+use Rattle.soundness.specs.Held.{onPlace, heldSet, SlotsOf, RowTable}
 
 -- sets that agree on each row
 module _ {A : Type 0} (d : A) where
@@ -113,7 +114,17 @@ module _ (ns tb : List ℕ) (h : RowTable ns tb) (n : ℕ) where
   -- by the row that the table gives
   pub quick-set : (r m : ℕ) → getD ns (getD tb r 0) 0 ≡ m → m ≡ n → (n ≡ 0 → ⊥) → 1 * 2 ^ getD tb r 0 % 2 ^ 32 ≡ bitSet (numbered n) ns
   quick-set r m q e u =
-      one-row (getD tb r 0) (h .below r) (and-both (lt-ltb 0 n (omega arith)) (eq-eqb (getD ns (getD tb r 0) 0) n (q ∙ e)))
+      one-row (getD tb r 0) (h .rows .below r) (and-both (lt-ltb 0 n (omega arith)) (eq-eqb (getD ns (getD tb r 0) 0) n (q ∙ e)))
+
+  -- no relay has its remainder
+  pub absent-set : (m : ℕ) → (getD ns (getD tb (n % 256) 0) 0 % 256 ≡ m % 256 → ⊥) → m ≡ n → 0 ≡ bitSet (numbered n) ns
+  absent-set m u e =
+      sym (set-none 0 (numbered n) ns
+      (λ i q. not-pass (numbered n (getD ns i 0))
+      (λ s.
+      let same : getD ns i 0 ≡ n = eqb-true (getD ns i 0) n (and-right (given n) (eqb (getD ns i 0) n) s) in
+      let slot = rw same at (h .rows .same i (omega (arith, h .size))) in
+      u (slot ∙ ap (λ (x : ℕ). x % 256) (sym e)))))
 
   -- by a search
   module _ (f : Found) (m : ℕ) (same : m ≡ n) (g : f ≡ firstAt (numbered m) 0 ns) where
@@ -138,22 +149,22 @@ module _ (ns tb : List ℕ) (h : RowTable ns tb) (n : ℕ) where
 -- a row that the table gives
 module _ (ns tb : List ℕ) (h : RowTable ns tb) (r : ℕ) where
   pub slot-row : getD tb r 0 < 32
-  slot-row = h .below r
+  slot-row = h .rows .below r
 
   pub slot-within : getD tb r 0 < length ns
-  slot-within = omega (arith, h .size, h .below r)
+  slot-within = omega (arith, h .size, h .rows .below r)
 
   pub slot-cast : Fits w32 (getD tb r 0)
-  slot-cast = record { fits = omega (arith, h .below r) }
+  slot-cast = record { fits = omega (arith, h .rows .below r) }
 
   pub slot-scaled : Fits w64 (getD tb r 0 * 8)
-  slot-scaled = record { fits = omega (arith, h .below r) }
+  slot-scaled = record { fits = omega (arith, h .rows .below r) }
 
 -- relays whose numbers differ
 module _ (ns : List ℕ) (rs : List Relay) (e : ns ≡ map relayNumber rs) where
-  pub row-table : (tb : List ℕ) → length rs ≡ 32 → length tb ≡ 256 → ((j : ℕ) → getD tb j 0 < 32) → noClash numbered (map relayNumber rs) ≡ true → RowTable ns tb
+  pub row-table : (tb : List ℕ) → length rs ≡ 32 → length tb ≡ 256 → SlotsOf (map relayNumber rs) tb → noClash numbered (map relayNumber rs) ≡ true → RowTable ns tb
   row-table tb l k f h =
-      record { size = ap (λ (m : List ℕ). length m) e ∙ length-map rs relayNumber ∙ l; slots = k; below = f; differ = rw (← e) at h }
+      record { size = ap (λ (m : List ℕ). length m) e ∙ length-map rs relayNumber ∙ l; slots = k; rows = rw (← e) at f; differ = rw (← e) at h }
 
   pub relays-apart : (b : Bool) → b ≡ noClash numbered ns → b ≡ noClash numbered (map relayNumber rs)
   relays-apart b h = rw e at h
@@ -164,37 +175,60 @@ module _ (ns : List ℕ) (rs : List Relay) (e : ns ≡ map relayNumber rs) where
   pub relays-held : (hs : List ℕ) (es : List Entry) → hs ≡ map (heldSet ns) es → hs ≡ map (heldSet (map relayNumber rs)) es
   relays-held hs es h = rw e at h
 
--- the loop that fills the table: each slot has a row
-pub record SlotsLoop (tb : List ℕ) : Type 0 where
+-- the loop that fills the table with the rows of the relays rs, at the row i
+pub record SlotsLoop (rs : List Relay) (tb : List ℕ) (i : ℕ) : Type 0 where
   pub size : length tb ≡ 256
+  pub rows : length rs ≡ 32
   pub below : (j : ℕ) → getD tb j 0 < 32
+  pub same : (j : ℕ) → j < i → getD (map relayNumber rs) (getD tb (getD (map relayNumber rs) j 0 % 256) 0) 0 % 256 ≡ getD (map relayNumber rs) j 0 % 256
 
 zeros-below : (n j : ℕ) → getD (replicate n 0) j 0 < 32
 zeros-below zero j = omega arith
 zeros-below (suc n) zero = omega arith
 zeros-below (suc n) (suc j) = zeros-below n j
 
-pub slots-start : SlotsLoop (replicate 256 0)
-slots-start = record { size = length-replicate {A = ℕ} 256 0; below = zeros-below 256 }
+module _ (rs : List Relay) where
+  pub slots-start : length rs ≡ 32 → SlotsLoop rs (replicate 256 0) 0
+  slots-start l = record { size = length-replicate {A = ℕ} 256 0; rows = l; below = zeros-below 256; same = λ j w. absurd (omega arith) }
 
-module _ (tb : List ℕ) (h : SlotsLoop tb) where
-  pub slots-end : (j : ℕ) → getD tb j 0 < 32
-  slots-end = h .below
+  module _ (tb : List ℕ) (i : ℕ) (h : SlotsLoop rs tb i) where
+    pub slots-end : 32 ≤ i → SlotsOf (map relayNumber rs) tb
+    slots-end w = record { below = h .below; same = λ j q. h .same j (omega arith) }
 
-  pub slots-size : length tb ≡ 256
-  slots-size = h .size
+    pub slots-size : length tb ≡ 256
+    slots-size = h .size
 
-  pub slots-step : (n i : ℕ) → i < 32 → SlotsLoop (set tb (n % 256) i)
-  slots-step n i w =
-      record {
-        size = length-set tb (n % 256) i ∙ h .size;
-        below = λ j. ⊎-elim
-            (λ e. let z : j ≡ n % 256 = eqb-true j (n % 256) e in rw (z, getD-set-same tb (n % 256) i 0 (omega (arith, h .size))) w)
-            (λ e. rw (getD-set-other tb (n % 256) j i 0 (eqb-false j (n % 256) e)) (h .below j))
-            (pass-or-fail (eqb j (n % 256)));
-      }
+    abbrev r : ℕ
+    r = getD rs i blankRelay .no .0 % 256
 
-pub ruleset slots-made = (slots-step, slots-end, slots-size, slots-start, needs)
+    abbrev ns : List ℕ
+    ns = map relayNumber rs
+
+    pub slots-step : i < 32 → SlotsLoop rs (set tb (getD rs i blankRelay .no .0 % 256) i) (i + 1)
+    slots-step w =
+        record {
+          size = length-set tb r i ∙ h .size;
+          rows = h .rows;
+          below = λ j. ⊎-elim
+              (λ e. let z : j ≡ r = eqb-true j r e in rw (z, getD-set-same tb r i 0 inside) w)
+              (λ e. rw (getD-set-other tb r j i 0 (eqb-false j r e)) (h .below j))
+              (pass-or-fail (eqb j r));
+          same = λ j q. ⊎-elim
+              (λ e. let z : getD ns j 0 % 256 ≡ r = eqb-true (getD ns j 0 % 256) r e in rw (z, getD-set-same tb r i 0 inside) here)
+              (λ e. rw (getD-set-other tb r (getD ns j 0 % 256) i 0 (eqb-false (getD ns j 0 % 256) r e)) (h .same j (earlier j q (eqb-false (getD ns j 0 % 256) r e))))
+              (pass-or-fail (eqb (getD ns j 0 % 256) r));
+        }
+      where
+        inside : r < length tb
+        inside = omega (arith, h .size)
+
+        here : getD ns i 0 % 256 ≡ r
+        here = ap (λ (x : ℕ). x % 256) (map-row relayNumber rs i blankRelay 0 (omega (arith, h .rows)))
+
+        earlier : (j : ℕ) → j < i + 1 → (getD ns j 0 % 256 ≡ r → ⊥) → j < i
+        earlier j q u = ⊎-elim (λ e. absurd (u (let z : j ≡ i = omega arith in rw z here))) (λ e. omega arith) (eq-or-lt-of-le q)
+
+pub ruleset slots-made = (slots-step, slots-end, slots-size, slots-start, rows-length, needs)
 
 -- the loop over the places: the set of the relays that have one of the first p
 pub record HeldLoop (ns tb ps : List ℕ) (p s : ℕ) : Type 0 where

@@ -2,7 +2,7 @@
 use mathlib.Core.Path.{_≡_}
 use mathlib.Core.Bool.{Bool, true}
 use mathlib.Core.List.{List}
-use Prim.Native.Nat.{ℕ, _<_}
+use Prim.Native.Nat.{ℕ, _%_, _<_}
 use lib.ListN.{length, getD}
 use Rattle.lists.specs.Lists.{anyOf, noClash, bitSet}
 use Rattle.rules.specs.declared.Entry.{Entry}
@@ -17,9 +17,14 @@ onPlace ps x = anyOf (numbered x) ps
 unfoldable pub heldSet : List ℕ → Entry → ℕ
 heldSet ns e = bitSet (onPlace (placesOf e)) ns
 
--- the numbers of the relays, no two of them the same, and for each remainder by 256 a row
+-- for each remainder by 256 a row: of a relay whose number has it, if there is one
+pub record SlotsOf (ns table : List ℕ) : Type 0 where
+  pub below : (j : ℕ) → getD table j 0 < 32
+  pub same : (i : ℕ) → i < 32 → getD ns (getD table (getD ns i 0 % 256) 0) 0 % 256 ≡ getD ns i 0 % 256
+
+-- that table, and the numbers of the relays, no two of them the same
 pub record RowTable (ns table : List ℕ) : Type 0 where
   pub size : length ns ≡ 32
   pub slots : length table ≡ 256
-  pub below : (j : ℕ) → getD table j 0 < 32
+  pub rows : SlotsOf ns table
   pub differ : noClash numbered ns ≡ true

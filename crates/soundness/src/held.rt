@@ -2,13 +2,12 @@
 ghost use mathlib.Core.Path.{_≡_};
 ghost use mathlib.Core.Bool.{true};
 ghost use mathlib.Core.List.{map};
-ghost use Prim.Native.Nat.{ℕ, _<_, _/_, _%_, _^_};
+ghost use Prim.Native.Nat.{_<_, _/_, _%_, _^_};
 ghost use lib.Dec.{eqb};
-ghost use lib.ListN.{getD};
 ghost use Rattle.lists.specs.Lists.{noClash, bitSet};
 ghost use Rattle.rules.specs.Tables.{numbered};
 ghost use Rattle.soundness.specs.Numbers.{relayNumber};
-ghost use Rattle.soundness.specs.Held.{onPlace, heldSet, RowTable};
+ghost use Rattle.soundness.specs.Held.{onPlace, heldSet, SlotsOf, RowTable};
 use super::numbers::relay_numbers;
 use super::placements::place_numbers;
 use lists::Found;
@@ -19,7 +18,7 @@ use rules::Relay;
 
 // For each remainder by 256 the row of a relay whose number has it, or 0.
 fn rows_by(rows: [Relay; 32]) -> [usize; 256]
-    ensures { λ r. ⌜ ((j : ℕ) → getD r j 0 < 32) ⌝ }
+    ensures { λ r. ⌜ SlotsOf (map relayNumber rows) r ⌝ }
 {
     let mut table = [0usize; 256];
     let mut i: usize = 0;
@@ -31,7 +30,7 @@ fn rows_by(rows: [Relay; 32]) -> [usize; 256]
     table
 }
 
-// The row of the relay of this number: by its remainder, and by a search where that finds another.
+// The row of the relay of this number: by its remainder, and by a search where that finds another relay of the same remainder.
 fn place_set(numbers: &[u64], table: &[usize], n: u32) -> u32
     requires { ⌜ RowTable (now numbers) (now table) ⌝ }
     ensures { λ r. ⌜ r ≡ bitSet (numbered n) (now (numbers .entry)) ⌝ }
@@ -41,8 +40,12 @@ fn place_set(numbers: &[u64], table: &[usize], n: u32) -> u32
     }
     let r = (n % 256) as usize;
     let k = table[r];
-    if numbers[k] == wide(n) {
+    let x = numbers[k];
+    if x == wide(n) {
         return 1 << k;
+    }
+    if x % 256 != wide(n) % 256 {
+        return 0;
     }
     let Found::At(i) = find_number(numbers, wide(n)) else {
         return 0;

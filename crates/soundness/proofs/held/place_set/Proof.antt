@@ -1,6 +1,6 @@
 -- `held::place_set` meets its contract: no two relays have the number, so that one row is the set. Assumes nothing.
 use borrow.Author.Needs.{needs}
-use Rattle.soundness.proofs.HeldLaws.{slots, zero-set, quick-set, none-set, found-set}
+use Rattle.soundness.proofs.HeldLaws.{slots, zero-set, quick-set, absent-set, none-set, found-set}
 use Rattle.soundness.proofs.held.place_set.Statement.{statement}
 use Rattle.soundness.proofs.held.place_set.Tie as tie
 
@@ -18,6 +18,8 @@ place-set-spec =
     (λ c. search slots)
     (λ c. search slots)
     (λ c. search quick-set)
+    (λ c κs. search needs)
+    (λ c. search absent-set)
     (λ c κs. search needs)
     (λ c κs. search needs)
     (λ c. search needs)
