@@ -1,22 +1,22 @@
--- The walk up a chain of parents that looks for one token, and its loop; and the loop over the rows that goes by it. Assumes nothing.
+-- The walk up a chain of parents that looks for one token, and its loop; and the loop that makes the set of the rows by it. Assumes nothing.
 use mathlib.Core.Path.{_≡_, refl, sym, _∙_}
 use mathlib.Core.Bool.{Bool, true, false, _||_}
 use mathlib.Core.List.{List, map}
-use Prim.Native.Nat.{ℕ, suc, _+_, _-_, _<_, _≤_}
+use Prim.Native.Nat.{ℕ, suc, _+_, _-_, _*_, _%_, _^_, _<_, _≤_}
 use native.Mathlib.Omega.{arith}
 use borrow.Author.Needs.{needs}
-use lib.ListN.{length, getD, set}
+use lib.Bits.{bitOr}
+use lib.ListN.{length, getD, take, List·getD-map}
 use Rattle.lists.specs.declared.Found.{Found}
 use Rattle.lists.specs.declared.Found.the-variants.{At, Nothing}
-use Rattle.lists.specs.Lists.{firstAt, anyOf}
-use Rattle.lists.specs.RowLaws.{any-map, rows-length}
+use Rattle.lists.specs.Lists.{firstAt, anyOf, bitSet}
+use Rattle.lists.specs.BitLaws.{up-none, up-here, up-on, up-end, up-lt, or-row}
+use Rattle.lists.specs.RowLaws.{any-map}
 use Rattle.lists.specs.AnswerLaws.{in-table, part-holds}
 use Rattle.rules.specs.declared.TokenNo.{TokenNo}
 use Rattle.rules.specs.declared.Token.{Token}
-use Rattle.rules.specs.Tables.{numbered, isToken, cleared}
-use Rattle.rules.specs.Fresh.{freshToken}
+use Rattle.rules.specs.Tables.{numbered, isToken}
 use Rattle.rules.specs.Scope.{descends}
-use Rattle.rules.specs.Laws.ClearLoops.{ClearLoop, clear-start, clear-end, cleared-row, kept-row}
 use Rattle.rows.specs.Blank.{blankToken}
 use Rattle.rows.specs.Links.{tokenNumber, tokenParent, chainIn}
 use Rattle.rows.specs.LinkLaws.{link-none, link-step, link-end, linked}
@@ -92,37 +92,43 @@ descends-linked ts n k b ns ps h e f =
     ∙ rw
     (e, f, linked ts 7 (k .parent .0), any-map tokenNumber (upward ts 7 (k .parent .0)) (numbered (n .0)) (isToken n) (λ x. refl), chain-up ts 7 k)
 
--- the loop that makes the rows fresh which go, in the table ts: the lists are those of its rows, and i of them were looked at
-pub record DropLoop (ts : List Token) (n : TokenNo) (ns ps : List ℕ) (i : ℕ) (out : List Token) : Type 0 where
-  pub numbers : ns ≡ map tokenNumber ts
-  pub parents : ps ≡ map tokenParent ts
-  pub rows : ClearLoop (descends ts n) freshToken ts 32 i out
+-- the loop that makes the set of the rows which go: the lists are those of a table of 32 rows, and i of these were looked at
+pub record DescendantsLoop (ns ps : List ℕ) (n : TokenNo) (i s : ℕ) : Type 0 where
+  pub place : i ≤ 32
+  pub made : (ts : List Token) → length ts ≡ 32 → ns ≡ map tokenNumber ts → ps ≡ map tokenParent ts → s ≡ bitSet (descends ts n) (take i ts)
 
-module _ (ts : List Token) (n : TokenNo) (ns ps : List ℕ) where
-  pub drop-start : length ts ≡ 32 → ns ≡ map tokenNumber ts → ps ≡ map tokenParent ts → DropLoop ts n ns ps 0 ts
-  drop-start l e f = record { numbers = e; parents = f; rows = clear-start (descends ts n) freshToken ts 32 l }
+module _ (ns ps : List ℕ) (n : TokenNo) where
+  pub descendants-start : DescendantsLoop ns ps n 0 0
+  descendants-start = record { place = omega arith; made = λ ts l e f. up-none (descends ts n) ts }
 
-  module _ (i : ℕ) (out : List Token) (h : DropLoop ts n ns ps i out) where
-    pub drop-end : 32 ≤ i → length ts ≡ 32 → out ≡ cleared (descends ts n) freshToken ts
-    drop-end k l = clear-end (descends ts n) freshToken ts 32 i out (h .rows) k l
+  module _ (i s : ℕ) (h : DescendantsLoop ns ps n i s) where
+    pub descendants-end : (ts : List Token) → 32 ≤ i → length ts ≡ 32 → ns ≡ map tokenNumber ts → ps ≡ map tokenParent ts → s ≡ bitSet (descends ts n) ts
+    descendants-end ts k l e f = up-end (descends ts n) ts i (omega (arith, l)) (h .made ts l e f)
 
-    pub drop-size : length out ≡ length ts
-    drop-size = h .rows .size
+    -- b is what the walk said of row i, and next the set after it
+    module _ (b : Bool) (next : ℕ) (k : i < 32) (w : b ≡ descendsIn ns ps (n .0) (getD ns i 0) (getD ps i 0)) where
+      told : (ts : List Token) → ns ≡ map tokenNumber ts → ps ≡ map tokenParent ts → b ≡ descends ts n (getD ts i blankToken)
+      told ts e f =
+          let x : getD ns i 0 ≡ getD ts i blankToken .no .0 = rw e (List·getD-map tokenNumber ts i blankToken) in
+          let y : getD ps i 0 ≡ getD ts i blankToken .parent .0 = rw f (List·getD-map tokenParent ts i blankToken) in
+          descends-linked ts n (getD ts i blankToken) b ns ps (rw (x, y) at w) e f
 
-    -- b is what the walk said of row i, and next the table after it
-    module _ (next : List Token) (b : Bool) where
-      abbrev Told : Type 0
-      Told = b ≡ descendsIn ns ps (n .0) (getD ts i blankToken .no .0) (getD ts i blankToken .parent .0)
+      pub descendants-adds : b ≡ true → next ≡ bitOr s (1 * 2 ^ i % 2 ^ 32) → DescendantsLoop ns ps n (i + 1) next
+      descendants-adds t q =
+          record {
+            place = omega arith;
+            made = λ ts l e f.
+                let m = h .made ts l e f in
+                let below : s < 2 ^ i = rw m (up-lt (descends ts n) ts i (omega (arith, l, h .place))) in
+                q ∙ or-row 32 s i below k ∙ sym (up-here (descends ts n) ts blankToken i (omega (arith, l)) (told ts e f) m t);
+          }
 
-      told : Told → b ≡ descends ts n (getD ts i blankToken)
-      told e = descends-linked ts n (getD ts i blankToken) b ns ps e (h .numbers) (h .parents)
+      pub descendants-skips : b ≡ false → next ≡ s → DescendantsLoop ns ps n (i + 1) next
+      descendants-skips t q =
+          record {
+            place = omega arith;
+            made = λ ts l e f.
+                q ∙ sym (up-on (descends ts n) ts blankToken i (omega (arith, l)) (told ts e f) (h .made ts l e f) t);
+          }
 
-      pub drop-row : b ≡ true → (y : Token) → next ≡ set out i y → y ≡ freshToken → i < 32 → Told → DropLoop ts n ns ps (i + 1) next
-      drop-row t y f q k e =
-          record { numbers = h .numbers; parents = h .parents; rows = cleared-row blankToken (descends ts n) freshToken ts 32 i out b (h .rows) k (told e) next y t q f }
-
-      pub keep-row : b ≡ false → next ≡ out → i < 32 → Told → DropLoop ts n ns ps (i + 1) next
-      keep-row t f k e =
-          record { numbers = h .numbers; parents = h .parents; rows = kept-row blankToken (descends ts n) freshToken ts 32 i out b (h .rows) k (told e) next t f }
-
-pub ruleset drops = (drop-row, keep-row, drop-end, drop-size, drop-start, rows-length, needs)
+pub ruleset descendant-sets = (descendants-adds, descendants-skips, descendants-end, descendants-start, needs)

@@ -1,6 +1,6 @@
 // The work of the calls on tokens: grant, attenuate, revoke and look. Each reads the tables and gives back what it
-// changes of them: the token table and the last number given. Look changes nothing and gives back its answer. Grant, attenuate
-// and look also have a form for a caller that has found the rows: it takes these rows, and gives back the new one or the answer.
+// changes of them: the token table and the last number given. Look changes nothing and gives back its answer. Each also has a
+// form for a caller that has found the rows: it takes these rows, and gives back the new one, the set of those that go, or the answer.
 mod answers;
 mod attenuate;
 mod grant;
@@ -16,6 +16,7 @@ pub use grant::grant_row;
 pub use look::look_on;
 pub use look::look_rows;
 pub use revoke::revoke_on;
+pub use revoke::revoke_row;
 use rules::Answer;
 use rules::Token;
 
@@ -31,4 +32,10 @@ pub struct NewToken {
     pub answer: Answer,
     pub stored: bool,
     pub token: Token,
+}
+
+// What revoke gives: its answer, and the rows that go, one bit for each, the first row's lowest.
+pub struct Dropped {
+    pub answer: Answer,
+    pub set: u32,
 }

@@ -1,13 +1,24 @@
 // Revoke: the owner of a volume drops a token and all its descendants.
 ghost use mathlib.Core.Path.{_≡_};
+ghost use mathlib.Core.Bool.{cond};
+ghost use mathlib.Core.List.{List, map};
+ghost use Prim.Native.Nat.{ℕ, _<_, _/_, _%_, _^_};
+ghost use lib.Dec.{eqb};
+ghost use lib.ListN.{length};
+ghost use Rattle.lists.specs.Lists.{hit, miss, bitSet};
+ghost use Rattle.rules.specs.declared.Tables.{Tables};
+ghost use Rattle.rules.specs.declared.Token.{Token};
+ghost use Rattle.rules.specs.declared.TokenNo.{TokenNo};
 ghost use Rattle.rules.specs.Fresh.{freshToken};
-ghost use Rattle.rules.specs.Tables.{volumeOf, cleared};
+ghost use Rattle.rules.specs.Tables.{tokenOf};
 ghost use Rattle.rules.specs.Scope.{descends};
-ghost use Rattle.rules.specs.TokenCalls.{revokeRule, revokeOwner};
+ghost use Rattle.rules.specs.TokenCalls.{revokeRule};
+ghost use Rattle.rows.specs.Links.{tokenNumber, tokenParent};
 ghost use Rattle.tokens.specs.Descends.{inChain, descendsIn};
+ghost use Rattle.tokens.specs.Dropped.{clearedIn, droppedFrom, noneDropped};
 ghost use Rattle.tokens.specs.Parts.{onTokens};
+use super::Dropped;
 use super::TokensOutcome;
-use super::answers::accept;
 use super::answers::refuse;
 use lists::Found;
 use rows::find_number;
@@ -21,6 +32,7 @@ use rules::Account;
 use rules::Tables;
 use rules::Token;
 use rules::TokenNo;
+use rules::Volume;
 use rules::fresh_token;
 use rules::numbers::NO_TOKEN;
 use rules::numbers::NOT_OWNER;
@@ -49,25 +61,83 @@ fn in_chain(numbers: &[u64; 32], parents: &[u64; 32], n: u64, no: u64, parent: u
 }
 
 // The row is in use, and its token is n or a descendant of n.
-fn descends(numbers: &[u64; 32], parents: &[u64; 32], n: u32, no: u32, parent: u32) -> bool
+fn descends(numbers: &[u64; 32], parents: &[u64; 32], n: u64, no: u64, parent: u64) -> bool
     ensures { λ r. ⌜ r ≡ descendsIn (now (numbers .entry)) (now (parents .entry)) n no parent ⌝ }
 {
     if no == 0 {
         return false;
     }
-    in_chain(numbers, parents, n as u64, no as u64, parent as u64)
+    in_chain(numbers, parents, n, no, parent)
 }
 
-// The table without the token n and its descendants: which they are is read from the rows as they came.
-fn without(rows: [Token; 32], n: TokenNo) -> [Token; 32]
-    ensures { λ r. ⌜ r ≡ cleared (descends rows n) freshToken rows ⌝ }
+// The rows of the token n and of its descendants, one bit for each, the first row's lowest.
+fn descendant_rows(numbers: &[u64; 32], parents: &[u64; 32], n: TokenNo) -> u32
+    ensures { λ r. ⌜ ((ts : List Token) → length ts ≡ 32 → now (numbers .entry) ≡ map tokenNumber ts → now (parents .entry) ≡ map tokenParent ts → r ≡ bitSet (descends ts n) ts) ⌝ }
 {
-    let numbers = token_numbers(rows);
-    let parents = token_parents(rows);
+    let mut set: u32 = 0;
+    let mut i: usize = 0;
+    while i < 32 {
+        if descends(numbers, parents, n.0 as u64, numbers[i], parents[i]) {
+            set |= 1 << i;
+        }
+        i += 1;
+    }
+    set
+}
+
+// A refusal, of which no token goes.
+fn none_dropped(n: u32) -> Dropped
+    ensures { λ r. ⌜ r ≡ noneDropped n ⌝ }
+{
+    let answer = rules::refusal(n);
+    Dropped { answer, set: 0 }
+}
+
+// The same as `revoke_on`, of a table of volumes, the token's row where there is one, and the lists of the tokens' numbers and of their
+// parents' numbers.
+pub fn revoke_row(
+    volumes: [Volume; 8],
+    there: bool,
+    k: Token,
+    numbers: &[u64; 32],
+    parents: &[u64; 32],
+    a: Account,
+) -> Dropped
+    ensures { λ r. ⌜ ((t : Tables) (n : TokenNo) (i : ℕ) → length (t .tokens) ≡ 32 → t .volumes ≡ volumes → now (numbers .entry) ≡ map tokenNumber (t .tokens) → now (parents .entry) ≡ map tokenParent (t .tokens) → tokenOf n t ≡ cond there (hit i k) miss → droppedFrom t r ≡ revokeRule a n t) ⌝ }
+{
+    if !there {
+        return none_dropped(NO_TOKEN);
+    }
+    let volume = k.volume;
+    let Found::At(j) = find_volume(volumes, volume) else {
+        return none_dropped(NOT_OWNER);
+    };
+    let v = volumes[j];
+    if !owned_by(v, a) {
+        return none_dropped(NOT_OWNER);
+    }
+    let no = k.no;
+    let set = descendant_rows(numbers, parents, no);
+    let answer = rules::success(0);
+    Dropped { answer, set }
+}
+
+// Whether the row's bit is set.
+fn in_set(set: u32, i: usize) -> bool
+    requires { ⌜ i < 32 ⌝ }
+    ensures { λ r. ⌜ r ≡ eqb (set / 2 ^ i % 2) 1 ⌝ }
+{
+    (set >> i) % 2 == 1
+}
+
+// The table with the rows of the set as fresh ones.
+fn clear_set(rows: [Token; 32], set: u32) -> [Token; 32]
+    ensures { λ r. ⌜ r ≡ clearedIn set freshToken rows ⌝ }
+{
     let mut next = rows;
     let mut i: usize = 0;
     while i < 32 {
-        if descends(&numbers, &parents, n.0, rows[i].no.0, rows[i].parent.0) {
+        if in_set(set, i) {
             next[i] = fresh_token();
         }
         i += 1;
@@ -75,22 +145,26 @@ fn without(rows: [Token; 32], n: TokenNo) -> [Token; 32]
     next
 }
 
-// From the token's row on.
-fn revoke_token(t: Tables, a: Account, k: Token) -> TokensOutcome
-    ensures { λ r. ⌜ onTokens t r ≡ revokeOwner t a k (volumeOf (k .volume) t) ⌝ }
+// In the tables of the volumes and of the tokens, from the token's row on.
+fn revoke_at(
+    volumes: [Volume; 8],
+    rows: [Token; 32],
+    last: u32,
+    k: Token,
+    a: Account,
+) -> TokensOutcome
+    ensures { λ r. ⌜ ((t : Tables) (n : TokenNo) (i : ℕ) → t .volumes ≡ volumes → t .tokens ≡ rows → t .«last_token» ≡ last → tokenOf n t ≡ hit i k → onTokens t r ≡ revokeRule a n t) ⌝ }
 {
-    let volumes = t.volumes;
-    let volume = k.volume;
-    let Found::At(i) = find_volume(volumes, volume) else {
-        return refuse(t, NOT_OWNER);
-    };
-    let v = volumes[i];
-    if !owned_by(v, a) {
-        return refuse(t, NOT_OWNER);
+    let numbers = token_numbers(rows);
+    let parents = token_parents(rows);
+    let o = revoke_row(volumes, true, k, &numbers, &parents, a);
+    let answer = o.answer;
+    let tokens = clear_set(rows, o.set);
+    TokensOutcome {
+        answer,
+        tokens,
+        last,
     }
-    let rows = t.tokens;
-    let no = k.no;
-    accept(t, 0, without(rows, no), t.last_token)
 }
 
 // The token n and its descendants go, where the account owns the volume.
@@ -102,5 +176,6 @@ pub fn revoke_on(t: Tables, a: Account, n: TokenNo) -> TokensOutcome
         return refuse(t, NO_TOKEN);
     };
     let k = rows[i];
-    revoke_token(t, a, k)
+    let volumes = t.volumes;
+    revoke_at(volumes, rows, t.last_token, k, a)
 }

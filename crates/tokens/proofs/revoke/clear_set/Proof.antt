@@ -1,0 +1,22 @@
+-- `revoke::clear_set` meets its contract: the rows of the set, one after another. Assumes nothing.
+use Prim.Native.Nat.{_-_}
+use mathlib.Core.Logic.{⊎-elim}
+use Rattle.tokens.proofs.RevokeLaws.{ClearSetLoop, clears, clear-row, keep-row}
+use Rattle.tokens.proofs.revoke.clear_set.Statement.{statement}
+use Rattle.tokens.proofs.revoke.clear_set.Tie as tie
+
+pub clear-set-spec : {M : Type 1} → statement M
+clear-set-spec =
+    tie.close
+    (tie.spec
+    (λ set next₀ i₀ next i. ClearSetLoop set next₀ i next)
+    (λ set next₀ i₀ next i. 32 - i)
+    (λ c. search clears)
+    (λ c κs. search clears)
+    (λ c κs. search clears)
+    (λ c. search clears)
+    (λ c. search clears)
+    (λ c. search clears)
+    (λ c. search clears)
+    (λ c. ⊎-elim (λ w. search clear-row) (λ w. search keep-row) (c .if1 .came))
+    (λ c. search clears))
