@@ -7,3 +7,4 @@ pub mod EntryLaws
 pub mod PathKeys
 pub mod PathKeyLaws
 pub mod SumLaws
+pub mod SetLaws

@@ -2,8 +2,6 @@
 ghost use mathlib.Core.Path.{_≡_};
 ghost use mathlib.Core.Bool.{true};
 ghost use mathlib.Core.List.{map};
-ghost use Prim.Native.Nat.{_<_, _/_, _%_, _^_};
-ghost use lib.Dec.{eqb};
 ghost use Rattle.lists.specs.Lists.{noClash, bitSet};
 ghost use Rattle.rules.specs.Tables.{numbered};
 ghost use Rattle.soundness.specs.Numbers.{relayNumber};
@@ -95,12 +93,4 @@ pub(crate) fn relay_sets(rows: [Relay; 32], entries: [Entry; 64]) -> [u32; 64]
     let numbers = relay_numbers(rows);
     let table = rows_by(rows);
     held_sets(entries, &numbers, &table)
-}
-
-// Whether the row's bit is set.
-pub(crate) fn in_set(set: u32, i: usize) -> bool
-    requires { ⌜ i < 32 ⌝ }
-    ensures { λ r. ⌜ r ≡ eqb (set / 2 ^ i % 2) 1 ⌝ }
-{
-    (set >> i) % 2 == 1
 }

@@ -2,8 +2,7 @@
 ghost use mathlib.Core.Path.{_≡_};
 ghost use mathlib.Core.Bool.{cond};
 ghost use mathlib.Core.List.{List, map};
-ghost use Prim.Native.Nat.{ℕ, _<_, _/_, _%_, _^_};
-ghost use lib.Dec.{eqb};
+ghost use Prim.Native.Nat.{ℕ};
 ghost use lib.ListN.{length};
 ghost use Rattle.lists.specs.Lists.{hit, miss, bitSet};
 ghost use Rattle.rules.specs.declared.Tables.{Tables};
@@ -24,6 +23,7 @@ use lists::Found;
 use rows::find_number;
 use rows::find_token;
 use rows::find_volume;
+use rows::in_set;
 use rows::is_wide_number;
 use rows::owned_by;
 use rows::token_numbers;
@@ -120,14 +120,6 @@ pub fn revoke_row(
     let set = descendant_rows(numbers, parents, no);
     let answer = rules::success(0);
     Dropped { answer, set }
-}
-
-// Whether the row's bit is set.
-fn in_set(set: u32, i: usize) -> bool
-    requires { ⌜ i < 32 ⌝ }
-    ensures { λ r. ⌜ r ≡ eqb (set / 2 ^ i % 2) 1 ⌝ }
-{
-    (set >> i) % 2 == 1
 }
 
 // The table with the rows of the set as fresh ones.
