@@ -2,5 +2,7 @@ pub mod FamilyLaws
 pub mod QuotaLaws
 pub mod PlaceLoops
 pub mod SizeLaws
+pub mod SurveyLaws
 pub mod CommitLaws
+pub mod CheckLaws
 pub mod WithinRows

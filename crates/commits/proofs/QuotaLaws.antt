@@ -106,10 +106,12 @@ module _ (rows : List Token) (ns : List ℕ) (bytes i : ℕ) (out : List Token) 
           → b ≡ anyOf (numbered (getD rows i blankToken .no .0)) ns → i < 32 → Charging i out → Charging (i + 1) next
       charge-one x g u t e w h = rw g (fill-step-of (chargedBy ns bytes) blankToken rows rows 32 i out x h w (u ∙ sym (rw (sym e ∙ t))))
 
-  pub charge-end : (l : List Token) (k : ℕ) → 32 ≤ i → Charging i out → length rows ≡ 32 → ns ≡ numbersOf l k → out ≡ map (charged (take k l) bytes) rows
-  charge-end l k w h e q =
+  -- ks are the first k tokens of l
+  pub charge-end : (l ks : List Token) (k : ℕ) → 32 ≤ i → Charging i out → length rows ≡ 32 → ns ≡ numbersOf l k → take k l ≡ ks
+      → out ≡ map (charged ks bytes) rows
+  charge-end l ks k w h e q f =
       fill-whole rows (map (chargedBy ns bytes) rows) 32 i out h w e (length-mapped (chargedBy ns bytes) rows 32 e)
-      ∙ rw q (map-alike (chargedBy (numbersOf l k) bytes) (charged (take k l) bytes) rows (charged-alike l k bytes))
+      ∙ rw (q, ← f) (map-alike (chargedBy (numbersOf l k) bytes) (charged (take k l) bytes) rows (charged-alike l k bytes))
 
 -- a row in use of a table within the limits
 pub token-most : (l : List Token) (i : ℕ) (d : Token) → (getD l i d .no .0 ≡ 0 → ⊥) → allOf tokenWithin l ≡ true → length l ≡ 32 → i < 32

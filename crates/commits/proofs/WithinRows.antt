@@ -8,30 +8,11 @@ use lib.ListN.{getD}
 use Rattle.lists.specs.Lists.{allOf}
 use Rattle.lists.specs.LoopLaws.{AllLoop, all-failed, all-step}
 use Rattle.lists.specs.AnswerLaws.{part-holds}
-use Rattle.rules.specs.declared.Entry.{Entry}
 use Rattle.rules.specs.declared.Token.{Token}
-use Rattle.rules.specs.Limits.{sizeLimit, usedLimit}
-use Rattle.rules.specs.Tables.{freeEntry, freeToken}
-use Rattle.rows.specs.Blank.{blankEntry, blankToken}
-use Rattle.commits.specs.Within.{entryWithin, tokenWithin}
-
-module _ (rows : List Entry) (i : ℕ) where
-  pub entry-over : sizeLimit < getD rows i blankEntry .size → (getD rows i blankEntry .volume .0 ≡ 0 → ⊥) → i < 64 → AllLoop entryWithin rows 64 i
-      → false ≡ allOf entryWithin rows
-  unfolding entryWithin
-  entry-over w u k h =
-      let e = getD rows i blankEntry in
-      all-failed blankEntry entryWithin rows 64 i false h k (sym (rw (ne-eqb (e .volume .0) 0 u, lt-leb (e .size) sizeLimit w))) refl
-
-  pub entry-under : getD rows i blankEntry .size ≤ sizeLimit → i < 64 → AllLoop entryWithin rows 64 i → AllLoop entryWithin rows 64 (i + 1)
-  unfolding entryWithin
-  entry-under w k h =
-      let e = getD rows i blankEntry in
-      all-step blankEntry entryWithin rows 64 i true h k (part-holds (freeEntry e) _ (le-leb (e .size) sizeLimit w)) refl
-
-  pub entry-free : getD rows i blankEntry .volume .0 ≡ 0 → i < 64 → AllLoop entryWithin rows 64 i → AllLoop entryWithin rows 64 (i + 1)
-  unfolding entryWithin
-  entry-free w k h = all-step blankEntry entryWithin rows 64 i true h k (sym (rw w)) refl
+use Rattle.rules.specs.Limits.{usedLimit}
+use Rattle.rules.specs.Tables.{freeToken}
+use Rattle.rows.specs.Blank.{blankToken}
+use Rattle.commits.specs.Within.{tokenWithin}
 
 module _ (rows : List Token) (i : ℕ) where
   pub token-over : usedLimit < getD rows i blankToken .used → (getD rows i blankToken .no .0 ≡ 0 → ⊥) → i < 32 → AllLoop tokenWithin rows 32 i

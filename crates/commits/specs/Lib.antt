@@ -2,4 +2,5 @@ pub mod Charge
 pub mod Parts
 pub mod Within
 pub mod Stored
+pub mod Checks
 pub mod WithinLaws

@@ -3,13 +3,14 @@ ghost use mathlib.Core.Path.{_≡_};
 ghost use mathlib.Core.Bool.{true};
 ghost use mathlib.Core.List.{map};
 ghost use Prim.Native.Nat.{_+_, _≤_, _^_};
-ghost use lib.ListN.{take};
 ghost use Rattle.lists.specs.Lists.{allOf, anyOf};
 ghost use Rattle.rules.specs.Tables.{numbered, withUsed};
+ghost use Rattle.rules.specs.Scope.{family};
 ghost use Rattle.rules.specs.Commit.{charged};
 ghost use Rattle.commits.specs.Charge.{numbersOf};
 ghost use Rattle.commits.specs.Within.{tokenWithin};
 use super::family::Family;
+use super::family::family_of;
 use rows::is_number;
 use rules::Token;
 
@@ -52,11 +53,12 @@ fn charge_row(row: Token, bytes: u64) -> Token
     next
 }
 
-// A row is copied only where it is charged.
-pub(crate) fn charge(rows: [Token; 32], f: Family, bytes: u64) -> [Token; 32]
-    requires { ⌜ (f .len ≤ 8) × (allOf tokenWithin rows ≡ true) × (bytes ≤ 2 ^ 40) ⌝ }
-    ensures { λ r. ⌜ r ≡ map (charged (take (f .len) (f .tokens)) bytes) rows ⌝ }
+// To the token and every ancestor. A row is copied only where it is charged.
+pub(crate) fn charge(rows: [Token; 32], k: Token, bytes: u64) -> [Token; 32]
+    requires { ⌜ (allOf tokenWithin rows ≡ true) × (bytes ≤ 2 ^ 40) ⌝ }
+    ensures { λ r. ⌜ r ≡ map (charged (family rows k) bytes) rows ⌝ }
 {
+    let f = family_of(rows, k);
     let numbers = numbers_of(f);
     let mut out = rows;
     let mut i: usize = 0;

@@ -2,10 +2,12 @@
 // It answers for every input: a running session past the limits that its sums rest on is answered 1.
 mod answers;
 mod charge;
+mod checks;
 mod commit;
 mod family;
 mod places;
 mod sizes;
+mod survey;
 mod within;
 
 pub use commit::commit_on;

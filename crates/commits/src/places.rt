@@ -1,6 +1,6 @@
 // The placing of a session's puts, one after another.
 ghost use mathlib.Core.Path.{_≡_};
-ghost use mathlib.Core.Bool.{true};
+ghost use mathlib.Core.Bool.{true, false};
 ghost use Prim.Native.Nat.{_≤_};
 ghost use lib.ListN.{take};
 ghost use Rattle.lists.specs.Lists.{allOf};
@@ -19,6 +19,19 @@ pub(crate) struct Places {
     pub placed: bool,
     pub places: [Placement; 8],
     pub rows: [Relay; 32],
+}
+
+// No put is placed.
+pub(crate) fn no_places(rows: [Relay; 32]) -> Places
+    ensures { λ r. ⌜ (r .placed ≡ false) × (r .rows ≡ rows) ⌝ }
+{
+    let none = fresh_placement();
+    let places = [none; 8];
+    Places {
+        placed: false,
+        places,
+        rows,
+    }
 }
 
 // The first `count` puts, each on the relays as those before it left them.

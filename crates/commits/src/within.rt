@@ -3,13 +3,12 @@ ghost use mathlib.Core.Path.{_≡_};
 ghost use Prim.Native.Nat.{_≤_};
 ghost use lib.ListN.{take};
 ghost use Rattle.lists.specs.Lists.{allOf};
-ghost use Rattle.commits.specs.Within.{volumeWithin, entryWithin, tokenWithin, relayWithin, putWithin, sessionWithin, inLimits};
+ghost use Rattle.commits.specs.Within.{volumeWithin, tokenWithin, relayWithin, putWithin, sessionWithin};
+ghost use Rattle.commits.specs.Checks.{partsWithin};
 use rows::shards_fit;
-use rules::Entry;
 use rules::Put;
 use rules::Relay;
 use rules::Session;
-use rules::Tables;
 use rules::Token;
 use rules::Volume;
 
@@ -48,21 +47,6 @@ fn all_volumes(rows: [Volume; 8]) -> bool
         let v = rows[i];
         if !volume_within(v) {
             return false;
-        }
-        i += 1;
-    }
-    true
-}
-
-fn all_entries(rows: [Entry; 64]) -> bool
-    ensures { λ r. ⌜ r ≡ allOf entryWithin rows ⌝ }
-{
-    let mut i: usize = 0;
-    while i < 64 {
-        if rows[i].volume.0 != 0 {
-            if 68719476736 < rows[i].size {
-                return false;
-            }
         }
         i += 1;
     }
@@ -124,25 +108,27 @@ fn session_within(s: Session) -> bool
     all_puts(puts, s.count)
 }
 
-// Whether the tables and the session are within the limits.
-pub(crate) fn in_limits(t: Tables, s: Session) -> bool
-    ensures { λ r. ⌜ r ≡ inLimits t s ⌝ }
+// Whether the tables and the session are within the limits, where `within` says it of the entries.
+pub(crate) fn in_limits(
+    volumes: [Volume; 8],
+    within: bool,
+    tokens: [Token; 32],
+    relays: [Relay; 32],
+    s: Session,
+) -> bool
+    ensures { λ r. ⌜ r ≡ partsWithin volumes within tokens relays s ⌝ }
 {
     if !session_within(s) {
         return false;
     }
-    let volumes = t.volumes;
     if !all_volumes(volumes) {
         return false;
     }
-    let entries = t.entries;
-    if !all_entries(entries) {
+    if !within {
         return false;
     }
-    let tokens = t.tokens;
     if !all_tokens(tokens) {
         return false;
     }
-    let relays = t.relays;
     all_relays(relays)
 }

@@ -15,6 +15,7 @@ charge-spec =
     (λ bytes rows numbers out₀ i₀ out i. FillLoop rows 0 (map (chargedBy numbers bytes) rows) 32 i out)
     (λ bytes rows numbers out₀ i₀ out i. 32 - i)
     (λ c κs. search needs)
+    (λ c κs. search needs)
     (λ c. search fills-of)
     (λ c. search fills-of)
     (λ c. search fills-of)

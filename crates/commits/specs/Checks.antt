@@ -1,0 +1,117 @@
+-- The checks of a commit over the parts of the tables that they read: each gives the number of the refusal, and 0 where all pass. Assumes nothing.
+use mathlib.Core.Path.{_≡_}
+use mathlib.Core.Bool.{Bool, true, _&&_, cond, not}
+use mathlib.Core.List.{List, [], _∷_, map}
+use Prim.Native.Nat.{ℕ, _+_, _*_, _≤_, _^_}
+use lib.Dec.{eqb, leb, ltb}
+use lib.ListN.{getD}
+use Rattle.lists.specs.Lists.{Hit, miss, hit, find, allOf, anyOf, countIf}
+use Rattle.rules.specs.declared.VolumeNo.{VolumeNo}
+use Rattle.rules.specs.declared.Placement.{Placement}
+use Rattle.rules.specs.declared.Volume.{Volume}
+use Rattle.rules.specs.declared.Entry.{Entry}
+use Rattle.rules.specs.declared.Token.{Token}
+use Rattle.rules.specs.declared.Relay.{Relay}
+use Rattle.rules.specs.declared.Put.{Put}
+use Rattle.rules.specs.declared.Session.{Session}
+use Rattle.rules.specs.Limits.{putRows, entryRows, lastVersion}
+use Rattle.rules.specs.Numbers.{BAD, NO-VOLUME, NO-TOKEN, WINDOW, STATE, CONFLICT, SPENT, QUOTA, SIZE, ROOM, RENT, NO-PLACE}
+use Rattle.rules.specs.Tables.{staged, usedEntry, inVolume, isVolume, isToken}
+use Rattle.rules.specs.Scope.{inWindow, passesCap, passesQuota, family}
+use Rattle.rules.specs.Sound.{shardsFit}
+use Rattle.rules.specs.Rent.{rentFor}
+use Rattle.rules.specs.VolumeCalls.{isActive}
+use Rattle.rules.specs.Commit.{Placed, noPlace, placed, stagedBytes, isReplaced, isNewPath, placeAll}
+use Rattle.rows.specs.Blank.{blankVolume, blankToken}
+use Rattle.commits.specs.Within.{volumeWithin, entryWithin, tokenWithin, relayWithin, putWithin, sessionWithin}
+use Rattle.commits.specs.Stored.{keptBytes}
+
+-- 5: "clock outside the token's window"; 8: "status doesn't allow the call"; 9: "volume's version isn't the one at opening"; 21: the version has
+-- reached its end
+unfoldable pub tokenFault : ℕ → Volume → ℕ → Token → ℕ
+tokenFault clock v version k =
+    cond (not (inWindow clock (k .scope))) WINDOW
+    (cond (not (isActive (v .status))) STATE (cond (not (eqb (v .version) version)) CONFLICT (cond (leb lastVersion (v .version)) SPENT 0)))
+
+-- 10, 11, 12, 13, where `ks` are the token and its ancestors, `bytes` the staged sizes, `kept` the bytes of the volume's entries that stay, and `rows`
+-- the entries in use with those that the puts add
+unfoldable pub limitsFault : ℕ → Volume → List Token → ℕ → ℕ → ℕ → ℕ
+limitsFault rate v ks bytes kept rows =
+    cond (anyOf (passesQuota bytes) ks) QUOTA
+    (cond (passesCap (v .cap) (kept + bytes)) SIZE
+    (cond (ltb entryRows rows) ROOM (cond (ltb (v .balance) (rentFor rate v ((kept + bytes) ∷ []))) RENT 0)))
+
+-- the first number, or the second where the first is 0
+abbrev pub orElse : ℕ → ℕ → ℕ
+orElse n m = cond (eqb n 0) m n
+
+-- 14: "some staged put finds too few eligible relays"
+abbrev pub placeFault : Placed → ℕ
+placeFault noPlace = NO-PLACE
+placeFault (placed places rs) = 0
+
+-- the placing of a session's puts
+abbrev pub placingOf : ℕ → List Relay → Session → Volume → Placed
+placingOf clock relays s v = placeAll clock (v .k) (v .m) (staged s) relays
+
+-- of the two rows, one check after the other
+unfoldable pub rowsFault : ℕ → ℕ → List Token → List Relay → Session → ℕ → ℕ → Volume → Token → ℕ
+rowsFault clock rate tokens relays s kept rows v k =
+    orElse (tokenFault clock v (s .version) k)
+    (orElse (limitsFault rate v (family tokens k) (stagedBytes (staged s)) kept rows) (placeFault (placingOf clock relays s v)))
+
+-- 4
+unfoldable pub faultAt : ℕ → ℕ → List Token → List Relay → Session → ℕ → ℕ → Volume → Hit Token → ℕ
+faultAt clock rate tokens relays s kept rows v miss = NO-TOKEN
+faultAt clock rate tokens relays s kept rows v (hit j k) = rowsFault clock rate tokens relays s kept rows v k
+
+-- 2
+unfoldable pub faultIn : ℕ → ℕ → List Token → List Relay → Session → ℕ → ℕ → Hit Volume → ℕ
+faultIn clock rate tokens relays s kept rows miss = NO-VOLUME
+faultIn clock rate tokens relays s kept rows (hit i v) = faultAt clock rate tokens relays s kept rows v (find (isToken (s .token)) tokens)
+
+-- the limits, where `within` says whether the entries are within theirs
+unfoldable pub partsWithin : List Volume → Bool → List Token → List Relay → Session → Bool
+partsWithin volumes within tokens relays s =
+    sessionWithin s && allOf volumeWithin volumes && within && allOf tokenWithin tokens && allOf relayWithin relays
+
+-- 1, then by the rows
+unfoldable pub checkFault : ℕ → ℕ → List Volume → List Token → List Relay → Session → Bool → ℕ → ℕ → ℕ
+checkFault clock rate volumes tokens relays s within kept rows =
+    cond (not (partsWithin volumes within tokens relays s)) BAD (faultIn clock rate tokens relays s kept rows (find (isVolume (s .volume)) volumes))
+
+-- what the placing of a session's puts rests on
+pub record Ready (relays : List Relay) (s : Session) (v : Volume) : Type 0 where
+  pub shards : shardsFit (v .k) (v .m) ≡ true
+  pub few : s .count ≤ putRows
+  pub puts : allOf putWithin (staged s) ≡ true
+  pub rooms : allOf relayWithin relays ≡ true
+
+-- the placements and the relays after them, which are known where the number of the checks is 0
+pub record PlacedIf (number clock : ℕ) (relays : List Relay) (s : Session) (v : Volume) (places : List Placement) (rs : List Relay) : Type 0 where
+  pub placing : number ≡ 0 → placingOf clock relays s v ≡ placed places rs
+
+-- the rows of a session's volume and token, and the placing, which are known where the number of the checks is 0
+pub record RowsIf (number clock : ℕ) (volumes : List Volume) (tokens : List Token) (relays : List Relay) (s : Session) (i j : ℕ) (places : List Placement)
+    (rs : List Relay) : Type 0 where
+  pub volume : number ≡ 0 → find (isVolume (s .volume)) volumes ≡ hit i (getD volumes i blankVolume)
+  pub token : number ≡ 0 → find (isToken (s .token)) tokens ≡ hit j (getD tokens j blankToken)
+  pub placing : number ≡ 0 → placingOf clock relays s (getD volumes i blankVolume) ≡ placed places rs
+
+-- the bytes of the volume's entries that stay, a mark set for each that does not; an entry past its limit counts as nothing
+abbrev pub leftSize : VolumeNo → Bool → Entry → ℕ
+leftSize n b e = cond (entryWithin e && inVolume n e && not b) (e .size) 0
+
+unfoldable pub leftBytes : VolumeNo → List Bool → List Entry → ℕ
+leftBytes n [] es = 0
+leftBytes n (b ∷ bs) [] = 0
+leftBytes n (b ∷ bs) (e ∷ es) = leftSize n b e + leftBytes n bs es
+
+-- what a commit reads of the entries, for the puts `ps` of the volume n: a mark for each entry that they replace, whether the entries are within
+-- their limits, the bytes of the volume's entries that stay, and the entries in use with those that the puts add
+pub record Surveyed (n : VolumeNo) (ps : List Put) (es : List Entry) (marks : List Bool) (within : Bool) (kept rows : ℕ) : Type 0 where
+  pub replaced : marks ≡ map (isReplaced n ps) es
+  pub limits : within ≡ allOf entryWithin es
+  pub stays : within ≡ true → kept ≡ keptBytes n ps es
+  pub small : kept ≤ 64 * 2 ^ 36
+  pub room : rows ≡ countIf usedEntry es + countIf (isNewPath n es) ps

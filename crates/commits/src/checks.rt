@@ -1,0 +1,186 @@
+// The checks of a commit, in the order of its row. Each is a function of what it reads, and gives the number of the refusal, or 0.
+ghost use mathlib.Core.Path.{_≡_};
+ghost use mathlib.Core.Bool.{true};
+ghost use Prim.Native.Nat.{_*_, _<_, _≤_, _^_};
+ghost use lib.ListN.{getD, take};
+ghost use Rattle.rules.specs.Sound.{shardsFit};
+ghost use Rattle.rows.specs.Blank.{blankVolume, blankToken};
+ghost use Rattle.commits.specs.Checks.{tokenFault, limitsFault, rowsFault, checkFault, Ready, PlacedIf, RowsIf};
+use super::family::Family;
+use super::family::family_of;
+use super::family::passes_cap;
+use super::family::passes_quotas;
+use super::places::Places;
+use super::places::no_places;
+use super::places::place_all;
+use super::sizes::below_rent;
+use super::sizes::staged_bytes;
+use super::within::in_limits;
+use lists::Found;
+use rows::find_token;
+use rows::find_volume;
+use rows::in_window;
+use rows::is_active;
+use rules::Relay;
+use rules::Session;
+use rules::Token;
+use rules::Volume;
+use rules::numbers::BAD;
+use rules::numbers::CONFLICT;
+use rules::numbers::NO_PLACE;
+use rules::numbers::NO_TOKEN;
+use rules::numbers::NO_VOLUME;
+use rules::numbers::QUOTA;
+use rules::numbers::RENT;
+use rules::numbers::ROOM;
+use rules::numbers::SIZE;
+use rules::numbers::SPENT;
+use rules::numbers::STATE;
+use rules::numbers::WINDOW;
+
+// The number of the refusal, or 0; where it is 0, the rows of the volume and of the token, and the placements.
+pub(crate) struct Checked {
+    pub number: u32,
+    pub row: usize,
+    pub token: usize,
+    pub p: Places,
+}
+
+fn failed(number: u32, relays: [Relay; 32]) -> Checked
+    ensures { λ r. ⌜ (r .number ≡ number) × (r .row < 8) × (r .token < 32) ⌝ }
+{
+    let p = no_places(relays);
+    Checked {
+        number,
+        row: 0,
+        token: 0,
+        p,
+    }
+}
+
+// The same without the rows.
+pub(crate) struct Placing {
+    pub number: u32,
+    pub p: Places,
+}
+
+fn unplaced(number: u32, relays: [Relay; 32]) -> Placing
+    ensures { λ r. ⌜ r .number ≡ number ⌝ }
+{
+    let p = no_places(relays);
+    Placing { number, p }
+}
+
+// The token's window, then the volume's status and version.
+fn token_fault(clock: u64, v: Volume, version: u32, k: Token) -> u32
+    ensures { λ r. ⌜ r ≡ tokenFault clock v version k ⌝ }
+{
+    let scope = k.scope;
+    if !in_window(clock, scope) {
+        return WINDOW;
+    }
+    let status = v.status;
+    if !is_active(status) {
+        return STATE;
+    }
+    if v.version != version {
+        return CONFLICT;
+    }
+    if 4294967295 <= v.version {
+        return SPENT;
+    }
+    0
+}
+
+// The quotas of the token and its ancestors, the volume's cap, the number of entries, and the rent.
+fn limits_fault(rate: u16, v: Volume, f: Family, bytes: u64, kept: u64, rows: usize) -> u32
+    requires { ⌜ (shardsFit (v .k) (v .m) ≡ true) × (f .len ≤ 8) × (bytes ≤ 8 * 2 ^ 36) × (kept ≤ 64 * 2 ^ 36) ⌝ }
+    ensures { λ r. ⌜ r ≡ limitsFault rate v (take (f .len) (f .tokens)) bytes kept rows ⌝ }
+{
+    if passes_quotas(f, bytes) {
+        return QUOTA;
+    }
+    let cap = v.cap;
+    if passes_cap(cap, kept, bytes) {
+        return SIZE;
+    }
+    if 64 < rows {
+        return ROOM;
+    }
+    if below_rent(rate, v, kept + bytes) {
+        return RENT;
+    }
+    0
+}
+
+// From the rows of the volume and the token on: their checks, then the placing of the puts.
+fn rows_check(
+    clock: u64,
+    rate: u16,
+    volumes: [Volume; 8],
+    tokens: [Token; 32],
+    relays: [Relay; 32],
+    i: usize,
+    j: usize,
+    s: Session,
+    kept: u64,
+    rows: usize,
+) -> Placing
+    requires { ⌜ Ready relays s (getD volumes i blankVolume) × (i < 8) × (j < 32) × (kept ≤ 64 * 2 ^ 36) ⌝ }
+    ensures { λ r. ⌜ (r .number ≡ rowsFault clock rate tokens relays s kept rows (getD volumes i blankVolume) (getD tokens j blankToken)) × PlacedIf (r .number) clock relays s (getD volumes i blankVolume) (take (s .count) (r .p .places)) (r .p .rows) ⌝ }
+{
+    let v = volumes[i];
+    let k = tokens[j];
+    let fault = token_fault(clock, v, s.version, k);
+    if fault != 0 {
+        return unplaced(fault, relays);
+    }
+    let puts = s.puts;
+    let bytes = staged_bytes(puts, s.count);
+    let f = family_of(tokens, k);
+    let over = limits_fault(rate, v, f, bytes, kept, rows);
+    if over != 0 {
+        return unplaced(over, relays);
+    }
+    let p = place_all(clock, v.k, v.m, puts, s.count, relays);
+    if !p.placed {
+        return unplaced(NO_PLACE, relays);
+    }
+    Placing { number: 0, p }
+}
+
+// All of them, where `within`, `kept` and `rows` are what was read of the entries.
+pub(crate) fn check(
+    clock: u64,
+    rate: u16,
+    volumes: [Volume; 8],
+    tokens: [Token; 32],
+    relays: [Relay; 32],
+    s: Session,
+    within: bool,
+    kept: u64,
+    rows: usize,
+) -> Checked
+    requires { ⌜ kept ≤ 64 * 2 ^ 36 ⌝ }
+    ensures { λ r. ⌜ (r .number ≡ checkFault clock rate volumes tokens relays s within kept rows) × RowsIf (r .number) clock volumes tokens relays s (r .row) (r .token) (take (s .count) (r .p .places)) (r .p .rows) × (r .row < 8) × (r .token < 32) ⌝ }
+{
+    if !in_limits(volumes, within, tokens, relays, s) {
+        return failed(BAD, relays);
+    }
+    let n = s.volume;
+    let Found::At(i) = find_volume(volumes, n) else {
+        return failed(NO_VOLUME, relays);
+    };
+    let m = s.token;
+    let Found::At(j) = find_token(tokens, m) else {
+        return failed(NO_TOKEN, relays);
+    };
+    let one = rows_check(clock, rate, volumes, tokens, relays, i, j, s, kept, rows);
+    let p = one.p;
+    Checked {
+        number: one.number,
+        row: i,
+        token: j,
+        p,
+    }
+}
