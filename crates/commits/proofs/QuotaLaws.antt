@@ -1,19 +1,17 @@
--- Whether a sum passes a limit, worked out without the sum; and a token that is charged. Assumes nothing.
+-- A token that is charged, by the numbers of its family. Assumes nothing.
 use mathlib.Core.Path.{_≡_, refl, sym, _∙_, ap}
 use mathlib.Core.Bool.{Bool, true, false, cond, or-false}
-use mathlib.Core.Logic.{⊎-elim}
 use mathlib.Core.List.{List, [], _∷_, map}
-use Prim.Native.Nat.{ℕ, zero, suc, _+_, _-_, _<_, _≤_, _^_}
+use Prim.Native.Nat.{ℕ, zero, suc, _+_, _<_, _≤_, _^_}
 use native.Mathlib.Omega.{arith}
 use mir.Val.{Fits}
 use mir.Syntax.{w64}
-use borrow.Author.Tests.{lt-ltb, le-ltb, ltb-true, ltb-false, leb-true, ne-eqb}
+use borrow.Author.Tests.{leb-true, ne-eqb}
 use borrow.Author.Needs.{needs}
-use lib.Dec.{eqb, ltb}
+use lib.Dec.{eqb}
 use lib.ListN.{length, getD, set, take, drop, replicate, length-take, length-drop, length-map, length-replicate, getD-replicate}
 use lib.Seq.{getD-drop}
 use Rattle.lists.specs.Lists.{allOf, anyOf}
-use Rattle.lists.specs.BoolLaws.{pass-or-fail}
 use Rattle.lists.specs.AnswerLaws.{part-fails}
 use Rattle.lists.specs.TestLaws.{all-at, at-none, any-append}
 use Rattle.lists.specs.LoopLaws.{AnyLoop, any-found-part, any-step-part, any-none-all, any-start, sizes}
@@ -29,19 +27,6 @@ use Rattle.rows.specs.Blank.{blankToken}
 use Rattle.rows.specs.Links.{tokenNumber}
 use Rattle.commits.specs.Charge.{numbersOf}
 use Rattle.commits.specs.Within.{tokenWithin}
-
-module _ (limit a b : ℕ) where
-  -- one of the two alone passes
-  pub passes-alone : limit < b → true ≡ ltb limit (a + b)
-  passes-alone h = sym (lt-ltb limit (a + b) (omega arith))
-
-  -- else the other is held to what it leaves
-  pub passes-left : b ≤ limit → ltb (limit - b) a ≡ ltb limit (a + b)
-  passes-left h =
-      ⊎-elim
-      (λ e. let k : limit - b < a = ltb-true (limit - b) a e in e ∙ sym (lt-ltb limit (a + b) (omega arith)))
-      (λ e. let k : a ≤ limit - b = ltb-false (limit - b) a e in e ∙ sym (le-ltb limit (a + b) (omega arith)))
-      (pass-or-fail (ltb (limit - b) a))
 
 take-map : {A B : Type 0} (f : A → B) (n : ℕ) (l : List A) → take n (map f l) ≡ map f (take n l)
 take-map f zero l = refl

@@ -1,13 +1,13 @@
 // A token and its ancestors, whose quotas a commit must not pass.
 ghost use mathlib.Core.Path.{_≡_};
 ghost use Prim.Native.Nat.{_+_, _≤_};
-ghost use lib.Dec.{ltb};
 ghost use lib.ListN.{take};
 ghost use Rattle.lists.specs.Lists.{anyOf};
 ghost use Rattle.rules.specs.Scope.{family, passesCap, passesQuota};
 use amount::Cap;
 use lists::Found;
 use rows::find_token;
+use rows::passes;
 use rules::Token;
 use rules::TokenNo;
 
@@ -34,16 +34,6 @@ pub(crate) fn family_of(rows: [Token; 32], k: Token) -> Family
         n += 1;
     }
     Family { tokens, len: n }
-}
-
-// Whether a sum passes a limit. The sum itself may not fit in 64 bits.
-fn passes(limit: u64, a: u64, b: u64) -> bool
-    ensures { λ r. ⌜ r ≡ ltb limit (a + b) ⌝ }
-{
-    if limit < b {
-        return true;
-    }
-    limit - b < a
 }
 
 // Whether a sum of bytes passes the cap.

@@ -16,8 +16,6 @@ use rules::Entry;
 use rules::Relay;
 use rules::Volume;
 pub use stores::count_new;
-pub use stores::count_used;
-pub use stores::is_replaced;
 pub use stores::mark_replaced;
 pub use stores::store_all;
 

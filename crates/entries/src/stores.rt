@@ -5,7 +5,6 @@ ghost use mathlib.Core.List.{map};
 ghost use lib.Dec.{eqb};
 ghost use lib.ListN.{take};
 ghost use Rattle.lists.specs.Lists.{countIf};
-ghost use Rattle.rules.specs.Tables.{usedEntry};
 ghost use Rattle.rules.specs.Commit.{isReplaced, isNewPath, entryFor, storeAll};
 use super::keys::has_key;
 use super::keys::put_keys;
@@ -22,7 +21,7 @@ use rules::VolumeNo;
 use text::text_len;
 
 // Whether one of the first `count` puts replaces the entry.
-pub fn is_replaced(e: Entry, n: VolumeNo, puts: [Put; 8], count: usize) -> bool
+fn is_replaced(e: Entry, n: VolumeNo, puts: [Put; 8], count: usize) -> bool
     ensures { λ r. ⌜ r ≡ isReplaced n (take count puts) e ⌝ }
 {
     if !is_number(n.0, e.volume.0) {
@@ -52,21 +51,6 @@ pub fn mark_replaced(entries: [Entry; 64], n: VolumeNo, puts: [Put; 8], count: u
         i += 1;
     }
     marks
-}
-
-// How many entries are in use.
-pub fn count_used(entries: [Entry; 64]) -> usize
-    ensures { λ r. ⌜ r ≡ countIf usedEntry entries ⌝ }
-{
-    let mut used: usize = 0;
-    let mut i: usize = 0;
-    while i < 64 {
-        if 0 < entries[i].volume.0 {
-            used += 1;
-        }
-        i += 1;
-    }
-    used
 }
 
 // How many of the first `count` puts have a path that is new to the volume. A row without a mark has none of their paths and is not
