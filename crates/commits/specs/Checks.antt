@@ -1,4 +1,5 @@
--- The checks of a commit over the parts of the tables that they read: each gives the number of the refusal, and 0 where all pass. Assumes nothing.
+-- The checks of a running session's commit over the parts of the tables that they read, as the number of the refusal, or 0 where all pass; and what is
+-- known where they pass, and of the entries. Number 19, for an idle slot, stands before them in `commitWithin`. Assumes nothing.
 use mathlib.Core.Path.{_≡_}
 use mathlib.Core.Bool.{Bool, true, _&&_, cond, not}
 use mathlib.Core.List.{List, [], _∷_, map}
@@ -98,10 +99,11 @@ pub record RowsIf (number clock : ℕ) (volumes : List Volume) (tokens : List To
   pub token : number ≡ 0 → find (isToken (s .token)) tokens ≡ hit j (getD tokens j blankToken)
   pub placing : number ≡ 0 → placingOf clock relays s (getD volumes i blankVolume) ≡ placed places rs
 
--- the bytes of the volume's entries that stay, a mark set for each that does not; an entry past its limit counts as nothing
+-- the bytes of an entry that stays: it is the volume's, and its mark is not set; an entry past its limit counts as nothing
 abbrev pub leftSize : VolumeNo → Bool → Entry → ℕ
 leftSize n b e = cond (entryWithin e && inVolume n e && not b) (e .size) 0
 
+-- those of all entries, each with its mark
 unfoldable pub leftBytes : VolumeNo → List Bool → List Entry → ℕ
 leftBytes n [] es = 0
 leftBytes n (b ∷ bs) [] = 0

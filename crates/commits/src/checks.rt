@@ -1,4 +1,5 @@
-// The checks of a commit, in the order of its row. Each is a function of what it reads, and gives the number of the refusal, or 0.
+// The checks of a running session's commit, in the order of its row. Each is a function of what it reads. A refusal is its number, and 0 stands for
+// none.
 ghost use mathlib.Core.Path.{_≡_};
 ghost use mathlib.Core.Bool.{true};
 ghost use Prim.Native.Nat.{_*_, _<_, _≤_, _^_};

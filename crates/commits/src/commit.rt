@@ -26,8 +26,8 @@ use rules::Token;
 use rules::Volume;
 use rules::numbers::SESSION;
 
-// The puts are stored, the bytes are charged, replaced entries give their room back, and the volume has a new version. A table that stays as it is
-// is not handed on.
+// The puts are stored, the bytes are charged, replaced entries give their room back, and the volume has a new version. Without puts the entries are not
+// handed on, and where nothing is replaced no room is given back.
 fn store(
     volumes: [Volume; 8],
     entries: [Entry; 64],

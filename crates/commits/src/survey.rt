@@ -1,4 +1,4 @@
-// What a commit reads of the entry table, in one function, so that the table is handed on once.
+// What a commit reads of the entry table before its puts are stored.
 ghost use mathlib.Core.Path.{_≡_};
 ghost use Prim.Native.Nat.{_*_, _≤_, _^_};
 ghost use lib.ListN.{take};
@@ -55,7 +55,7 @@ fn tally(entries: [Entry; 64], n: VolumeNo, marks: [bool; 64]) -> Sums
     Sums { within, kept, used }
 }
 
-// No puts replace nothing. Where no entry is replaced every put is new.
+// Without puts nothing is replaced, and where nothing is replaced every put is new: then the entries are not searched for it.
 pub(crate) fn survey(entries: [Entry; 64], n: VolumeNo, puts: [Put; 8], count: usize) -> Findings
     ensures { λ r. ⌜ Surveyed n (take count puts) entries (r .marks) (r .within) (r .kept) (r .rows) ⌝ }
 {

@@ -1,4 +1,4 @@
-// The numbers of the puts' paths, by which most entries that no put replaces are told without comparing their paths.
+// The numbers of the puts' paths. An entry whose path has none of them is not compared with the puts.
 ghost use mathlib.Core.Path.{_≡_};
 ghost use lib.ListN.{length, take};
 ghost use Rattle.lists.specs.Lists.{anyOf};

@@ -1,4 +1,4 @@
-// Rows by a path that is a text, of an entry or of a put.
+// Paths that are texts, of an entry or of a put.
 ghost use mathlib.Core.Path.{_≡_};
 ghost use lib.ListN.{take};
 ghost use Rattle.lists.specs.Lists.{anyOf};

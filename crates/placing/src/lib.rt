@@ -12,7 +12,6 @@ pub use loading::load;
 pub use put::place_put;
 pub use room::give_back_entry;
 pub use room::give_back_one;
-pub use room::holds_shard;
 use rules::Placement;
 use rules::Relay;
 pub use set::eligible;

@@ -4,14 +4,13 @@ ghost use mathlib.Core.List.{[], _∷_, map};
 ghost use Prim.Native.Nat.{min};
 ghost use lib.ListN.{length, take};
 ghost use Rattle.lists.specs.Lists.{anyOf, bitSet};
-ghost use Rattle.rules.specs.Relays.{holdsShard, lightened};
+ghost use Rattle.rules.specs.Relays.{lightened};
 ghost use Rattle.placing.specs.Room.{relayNumber, isNumber, hasShard, lightenedBy};
 use lent_relays::give_back_set;
 use rows::shard_bytes;
 use rules::Entry;
 use rules::Placement;
 use rules::Relay;
-use rules::RelayNo;
 use rules::Volume;
 
 // How many of a placement's 24 places are in use.
@@ -50,14 +49,6 @@ pub(crate) fn any_number(numbers: &[u32; 24], len: usize, n: u32) -> bool
         i += 1;
     }
     false
-}
-
-// Whether the placement has a shard on this relay.
-pub fn holds_shard(n: RelayNo, place: Placement) -> bool
-    ensures { λ r. ⌜ r ≡ holdsShard n place ⌝ }
-{
-    let numbers = place_numbers(place);
-    any_number(&numbers, place.len, n.0)
 }
 
 // The rows that have a shard of the placement, one bit for each, the first row's lowest.

@@ -15,17 +15,17 @@ use Rattle.rows.specs.PathKeys.{keyBytes, keyOf}
 pub key-given : (n : ℕ) (l : List ℕ) → 0 < keyOf n l
 unfolding keyOf
 key-given n l =
-    let k = bitXor (keyBytes 0 (drop (length l - 16) l)) (n * 2 ^ 40 % 2 ^ 64) * 2 ^ 1 % 2 ^ 64 in
+    let k = bitXor (keyBytes 0 (drop (length l - 13) l)) (n * 2 ^ 40 % 2 ^ 64) * 2 ^ 1 % 2 ^ 64 in
     omega (arith, or-add-and k 1, and-le-l k 1)
 
 -- the first len bytes of l are in the number up to the byte i of c: with those from i on it is the whole
 pub record KeyLoop (l : List ℕ) (len c key i : ℕ) : Type 0 where
   pub size : length (take len l) ≡ c
-  pub most : c ≤ 128
-  pub rest : keyBytes key (drop i (take len l)) ≡ keyBytes 0 (drop (c - 16) (take len l))
+  pub most : c ≤ pathLimit
+  pub rest : keyBytes key (drop i (take len l)) ≡ keyBytes 0 (drop (c - 13) (take len l))
 
 module _ (l : List ℕ) (len c : ℕ) where
-  pub key-start : (i : ℕ) → c ≡ min len pathLimit → i ≡ c - 16 → length l ≡ pathLimit → KeyLoop l len c 0 i
+  pub key-start : (i : ℕ) → c ≡ min len pathLimit → i ≡ c - 13 → length l ≡ pathLimit → KeyLoop l len c 0 i
   key-start i e f q = record { size = part-length l len pathLimit c e q; most = omega arith; rest = rw f }
 
   module _ (key i : ℕ) (h : KeyLoop l len c key i) where

@@ -8,14 +8,14 @@ use text::PATH_LIMIT;
 use text::Text;
 use text::byte_count;
 
-// Where the last 16 of so many bytes start.
+// Where the last 13 of so many bytes start.
 fn key_start(count: usize) -> usize
-    ensures { λ r. ⌜ r ≡ count - 16 ⌝ }
+    ensures { λ r. ⌜ r ≡ count - 13 ⌝ }
 {
-    if 16 < count { count - 16 } else { 0 }
+    if 13 < count { count - 13 } else { 0 }
 }
 
-// A number for the path that the first `len` bytes are, from the volume's number and the path's last 16 bytes, which equal paths
+// A number for the path that the first `len` bytes are, from the volume's number and the path's last 13 bytes, which equal paths
 // of one volume share: where the numbers differ, the paths need not be compared.
 pub fn bytes_key(n: u32, bytes: [u8; PATH_LIMIT], len: usize) -> u64
     ensures { λ r. ⌜ r ≡ keyOf n (take len bytes) ⌝ }

@@ -77,13 +77,7 @@ fn open_token(clock: u64, volumes: [Volume; 8], s: Session, k: Token) -> Session
 }
 
 // A session begins in an idle slot, where these are the clock and the volumes, and `k` is the token's row, if it is there.
-pub fn open_row(
-    clock: u64,
-    volumes: [Volume; 8],
-    s: Session,
-    there: bool,
-    k: Token,
-) -> SessionOutcome
+fn open_row(clock: u64, volumes: [Volume; 8], s: Session, there: bool, k: Token) -> SessionOutcome
     ensures { λ r. ⌜ ((t : Tables) (n : TokenNo) (i : ℕ) → t .clock ≡ clock → t .volumes ≡ volumes → tokenOf n t ≡ cond there (hit i k) miss → onSession t r ≡ openRule n t s) ⌝ }
 {
     if s.token.0 != 0 {

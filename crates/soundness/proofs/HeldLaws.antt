@@ -36,7 +36,7 @@ use Rattle.soundness.specs.Numbers.{relayNumber}
 use Rattle.soundness.specs.Places.{sameNumber, placeNumbers, placesOf}
 use Rattle.soundness.proofs.PlaceLaws.{place-among}
 use Rattle.soundness.proofs.FillLaws.{fill-zero, fill-stored}
-use Rattle.soundness.specs.Held.{onPlace, heldSet, SlotsOf, RowTable}
+use Rattle.soundness.specs.Held.{onPlace, heldSet, ByRemainder, RowTable}
 
 -- sets that agree on each row
 module _ {A : Type 0} (d : A) where
@@ -162,9 +162,9 @@ module _ (ns tb : List ℕ) (h : RowTable ns tb) (r : ℕ) where
 
 -- relays whose numbers differ
 module _ (ns : List ℕ) (rs : List Relay) (e : ns ≡ map relayNumber rs) where
-  pub row-table : (tb : List ℕ) → length rs ≡ 32 → length tb ≡ 256 → SlotsOf (map relayNumber rs) tb → noClash numbered (map relayNumber rs) ≡ true → RowTable ns tb
+  pub row-table : (tb : List ℕ) → length rs ≡ 32 → length tb ≡ 256 → ByRemainder (map relayNumber rs) tb → noClash numbered (map relayNumber rs) ≡ true → RowTable ns tb
   row-table tb l k f h =
-      record { size = ap (λ (m : List ℕ). length m) e ∙ length-map rs relayNumber ∙ l; slots = k; rows = rw (← e) at f; differ = rw (← e) at h }
+      record { size = ap (λ (m : List ℕ). length m) e ∙ length-map rs relayNumber ∙ l; entries = k; rows = rw (← e) at f; differ = rw (← e) at h }
 
   pub relays-apart : (b : Bool) → b ≡ noClash numbered ns → b ≡ noClash numbered (map relayNumber rs)
   relays-apart b h = rw e at h
@@ -192,7 +192,7 @@ module _ (rs : List Relay) where
   slots-start l = record { size = length-replicate {A = ℕ} 256 0; rows = l; below = zeros-below 256; same = λ j w. absurd (omega arith) }
 
   module _ (tb : List ℕ) (i : ℕ) (h : SlotsLoop rs tb i) where
-    pub slots-end : 32 ≤ i → SlotsOf (map relayNumber rs) tb
+    pub slots-end : 32 ≤ i → ByRemainder (map relayNumber rs) tb
     slots-end w = record { below = h .below; same = λ j q. h .same j (omega arith) }
 
     pub slots-size : length tb ≡ 256

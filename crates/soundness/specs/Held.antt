@@ -17,14 +17,14 @@ onPlace ps x = anyOf (numbered x) ps
 unfoldable pub heldSet : List ℕ → Entry → ℕ
 heldSet ns e = bitSet (onPlace (placesOf e)) ns
 
--- for each remainder by 256 a row: of a relay whose number has it, if there is one
-pub record SlotsOf (ns table : List ℕ) : Type 0 where
+-- for each remainder by 256 a row: one whose number has it, if there is one; the number of a free row is 0
+pub record ByRemainder (ns table : List ℕ) : Type 0 where
   pub below : (j : ℕ) → getD table j 0 < 32
   pub same : (i : ℕ) → i < 32 → getD ns (getD table (getD ns i 0 % 256) 0) 0 % 256 ≡ getD ns i 0 % 256
 
--- that table, and the numbers of the relays, no two of them the same
+-- that table, and the numbers of the relays, none of them held twice
 pub record RowTable (ns table : List ℕ) : Type 0 where
   pub size : length ns ≡ 32
-  pub slots : length table ≡ 256
-  pub rows : SlotsOf ns table
+  pub entries : length table ≡ 256
+  pub rows : ByRemainder ns table
   pub differ : noClash numbered ns ≡ true

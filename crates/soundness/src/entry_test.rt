@@ -110,7 +110,7 @@ fn paths_differ(rows: [Entry; 64], keys: [u64; 64]) -> bool
     true
 }
 
-// Where every key is 0, every row is free, and where no two keys are the same, no two paths are.
+// Where every key is 0, every row is free, and where no two keys are the same, no volume has a path twice.
 pub(crate) fn sound_entries(t: Tables) -> bool
     ensures { λ r. ⌜ r ≡ soundEntries t ⌝ }
 {

@@ -5,7 +5,7 @@ ghost use mathlib.Core.List.{map};
 ghost use Rattle.lists.specs.Lists.{noClash, bitSet};
 ghost use Rattle.rules.specs.Tables.{numbered};
 ghost use Rattle.soundness.specs.Numbers.{relayNumber};
-ghost use Rattle.soundness.specs.Held.{onPlace, heldSet, SlotsOf, RowTable};
+ghost use Rattle.soundness.specs.Held.{onPlace, heldSet, ByRemainder, RowTable};
 use super::numbers::relay_numbers;
 use super::placements::place_numbers;
 use lists::Found;
@@ -14,9 +14,9 @@ use rows::wide;
 use rules::Entry;
 use rules::Relay;
 
-// For each remainder by 256 the row of a relay whose number has it, or 0.
+// For each remainder by 256 the last row whose number has it, or 0. The number of a free row is 0.
 fn rows_by(rows: [Relay; 32]) -> [usize; 256]
-    ensures { λ r. ⌜ SlotsOf (map relayNumber rows) r ⌝ }
+    ensures { λ r. ⌜ ByRemainder (map relayNumber rows) r ⌝ }
 {
     let mut table = [0usize; 256];
     let mut i: usize = 0;
@@ -28,7 +28,8 @@ fn rows_by(rows: [Relay; 32]) -> [usize; 256]
     table
 }
 
-// The row of the relay of this number: by its remainder, and by a search where that finds another relay of the same remainder.
+// The set of the row whose relay has this number, or no row: by the number's remainder, and by a search where the row found has another number of that
+// remainder.
 fn place_set(numbers: &[u64], table: &[usize], n: u32) -> u32
     requires { ⌜ RowTable (now numbers) (now table) ⌝ }
     ensures { λ r. ⌜ r ≡ bitSet (numbered n) (now (numbers .entry)) ⌝ }

@@ -78,7 +78,7 @@ fn remainders_differ(numbers: &[u32]) -> bool
     true
 }
 
-// No two numbers are the same. Most placements pass the quick test.
+// No two numbers are the same. The remainders of relays numbered close together differ, and then no pair is compared.
 fn all_differ(numbers: &[u32]) -> bool
     ensures { λ r. ⌜ r ≡ noClash sameNumber (now (numbers .entry)) ⌝ }
 {

@@ -50,19 +50,6 @@ module _ (x y : ℕ) (s : Scope) (r : Bool) (e : x ≡ y) (h : r ≡ inWindow y 
   pub window-open : not r ≡ false → inWindow x s ≡ true
   window-open q = rw e (sym h ∙ not-false r q)
 
--- k is the row of the token n, where it is there
-module _ (t : Tables) (path : List ℕ) (n : TokenNo) (i : ℕ) (there : Bool) (k : Token) (h : tokenOf n t ≡ cond there (hit i k) miss) where
-  pub look-missed : (x : TablesOutcome) → not there ≡ true → x ≡ refused t NO-TOKEN → x ≡ lookIn t path (tokenOf n t)
-  unfolding lookIn
-  look-missed x q w = w ∙ sym (rw (h, not-true there q))
-
-  pub look-told : (clock j : ℕ) (found : Bool) (e : Entry) (r : Answer) → not there ≡ false → t .clock ≡ clock
-      → entryOf (k .volume) path t ≡ cond found (hit j e) miss
-      → ((u : Tables) (m : ℕ) → u .clock ≡ clock → entryOf (k .volume) path u ≡ cond found (hit m e) miss → unchanged u r ≡ lookIn u path (hit 0 k))
-      → unchanged t r ≡ lookIn t path (tokenOf n t)
-  unfolding lookIn
-  look-told clock j found e r q c w g = g t j c w ∙ sym (rw (h, not-false there q))
-
 -- by the token k: at the row i of the entries, and past their end
 module _ (t : Tables) (clock : ℕ) (es : List Entry) (c : t .clock ≡ clock) (v : t .entries ≡ es) (k : Token) (path : List ℕ) (i : ℕ) (r : Answer)
     (h : FindLoop (isEntry (k .volume) path) es 64 i) where

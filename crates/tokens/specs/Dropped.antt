@@ -19,6 +19,6 @@ clearedIn set fresh (x ∷ xs) = cond (eqb (set % 2) 1) fresh x ∷ clearedIn (s
 abbrev pub droppedFrom : Tables → Dropped → TablesOutcome
 droppedFrom t o = record { answer = o .answer; tables = withTokens t (clearedIn (o .set) freshToken (t .tokens)) }
 
--- a refusal, of which no token goes
+-- a refusal drops no token
 abbrev pub noneDropped : ℕ → Dropped
 noneDropped n = record { answer = refusal n; set = 0 }

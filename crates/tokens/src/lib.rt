@@ -1,6 +1,6 @@
 // The work of the calls on tokens: grant, attenuate, revoke and look. Each reads the tables and gives back what it
-// changes of them: the token table and the last number given. Look changes nothing and gives back its answer. Each also has a
-// form for a caller that has found the rows: it takes these rows, and gives back the new one, the set of those that go, or the answer.
+// changes of them: the token table and the last number given. Look changes nothing and gives back its answer. Within
+// the crate a call takes the rows and tables that it reads, and gives back the new row, the set of the rows that go, or the answer.
 mod answers;
 mod attenuate;
 mod grant;
@@ -10,13 +10,9 @@ mod revoke;
 mod scope;
 
 pub use attenuate::attenuate_on;
-pub use attenuate::attenuate_row;
 pub use grant::grant_on;
-pub use grant::grant_row;
 pub use look::look_on;
-pub use look::look_rows;
 pub use revoke::revoke_on;
-pub use revoke::revoke_row;
 use rules::Answer;
 use rules::Token;
 

@@ -4,8 +4,7 @@ ghost use mathlib.Core.Bool.{cond};
 ghost use Prim.Native.Nat.{ℕ};
 ghost use Rattle.lists.specs.Lists.{hit, miss};
 ghost use Rattle.rules.specs.declared.Tables.{Tables};
-ghost use Rattle.rules.specs.declared.TokenNo.{TokenNo};
-ghost use Rattle.rules.specs.Tables.{tokenOf, entryOf};
+ghost use Rattle.rules.specs.Tables.{entryOf};
 ghost use Rattle.rules.specs.TokenCalls.{lookRule, lookIn, lookEntry};
 ghost use Rattle.tokens.specs.Parts.{unchanged};
 use lists::Found;
@@ -57,19 +56,6 @@ fn look_token(clock: u64, k: Token, found: bool, e: Entry, path: &[u8]) -> Answe
         return refusal(PREFIX);
     }
     look_entry(found, e)
-}
-
-// The same as `look_on`, of the token's row and of the row of the path in the token's volume, where there are such rows.
-pub fn look_rows(clock: u64, there: bool, k: Token, found: bool, e: Entry, path: &[u8]) -> Answer
-    ensures { λ r. ⌜ ((t : Tables) (n : TokenNo) (i j : ℕ) → t .clock ≡ clock → tokenOf n t ≡ cond there (hit i k) miss → entryOf (k .volume) (now (path .entry)) t ≡ cond found (hit j e) miss → unchanged t r ≡ lookRule n (now (path .entry)) t) ⌝ }
-{
-    if !is_path(path) {
-        return refusal(BAD);
-    }
-    if !there {
-        return refusal(NO_TOKEN);
-    }
-    look_token(clock, k, found, e, path)
 }
 
 // In the table of the entries, from the token's row on. A row of another volume is not copied.

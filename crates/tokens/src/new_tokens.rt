@@ -1,4 +1,4 @@
-// A new token takes the next number, and a free row where there is one.
+// A new token takes the next number and the lowest free row, where there is one.
 ghost use mathlib.Core.Path.{_≡_};
 ghost use mathlib.Core.Bool.{cond};
 ghost use Prim.Native.Nat.{ℕ};

@@ -85,7 +85,7 @@ fn descendant_rows(numbers: &[u64; 32], parents: &[u64; 32], n: TokenNo) -> u32
     set
 }
 
-// A refusal, of which no token goes.
+// A refusal drops no token.
 fn none_dropped(n: u32) -> Dropped
     ensures { λ r. ⌜ r ≡ noneDropped n ⌝ }
 {
@@ -95,7 +95,7 @@ fn none_dropped(n: u32) -> Dropped
 
 // The same as `revoke_on`, of a table of volumes, the token's row where there is one, and the lists of the tokens' numbers and of their
 // parents' numbers.
-pub fn revoke_row(
+fn revoke_row(
     volumes: [Volume; 8],
     there: bool,
     k: Token,
