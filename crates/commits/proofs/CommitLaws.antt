@@ -1,4 +1,4 @@
--- What a commit leaves, part by part, and its answer. Assumes nothing.
+-- What a commit leaves, part by part. Assumes nothing.
 use mathlib.Core.Path.{_≡_, _∙_}
 use mathlib.Core.Bool.{Bool, false}
 use mathlib.Core.List.{List, map}
@@ -12,17 +12,11 @@ use Rattle.rules.specs.declared.Entry.{Entry}
 use Rattle.rules.specs.declared.Token.{Token}
 use Rattle.rules.specs.declared.Relay.{Relay}
 use Rattle.rules.specs.declared.Put.{Put}
-use Rattle.rules.specs.declared.Session.{Session}
-use Rattle.rules.specs.declared.Tables.{Tables}
-use Rattle.rules.specs.Tables.{staged}
 use Rattle.rules.specs.Scope.{family}
 use Rattle.rules.specs.Relays.{lightened}
-use Rattle.rules.specs.Commit.{placed, stagedBytes, isReplaced, storeAll, charged, committed, commitPlaced}
+use Rattle.rules.specs.Commit.{stagedBytes, storeAll, charged}
 use Rattle.entries.specs.Marks.{isSet, marked}
-use Rattle.entries.specs.MarkLaws.{marked-keep, give-none}
-use Rattle.commits.specs.declared.CommitOutcome.{CommitOutcome}
-use Rattle.commits.specs.Parts.{onCommit}
-use Rattle.commits.specs.Stored.{StoredAs}
+use Rattle.entries.specs.MarkLaws.{give-none}
 
 -- without puts the entries stay
 pub stores-none : (n : VolumeNo) (count : ℕ) (puts : List Put) (places : List Placement) (es : List Entry) → count ≡ 0
@@ -39,11 +33,3 @@ charges-staged tokens cs k bytes ps e f = e ∙ rw f
 pub gives-none : (vs : List Volume) (es : List Entry) (ms : List Bool) (rs : List Relay) (r : Bool) → r ≡ anyOf isSet ms → r ≡ false
     → rs ≡ map (lightened vs (marked ms es)) rs
 gives-none vs es ms rs r e f = give-none vs es ms rs r (rw f) e
-
--- the answer, where ms are the marks of the entries that are replaced
-pub stores-answer : (t : Tables) (s : Session) (ms : List Bool) (i : ℕ) (v : Volume) (k : Token) (places : List Placement) (rs : List Relay) (o : CommitOutcome)
-    → ms ≡ map (isReplaced (v .no) (staged s)) (t .entries) → StoredAs (t .volumes) (t .entries) (t .tokens) ms i v k (staged s) places rs o
-    → onCommit t o ≡ commitPlaced t s i v k (placed places rs)
-unfolding commitPlaced committed
-stores-answer t s ms i v k places rs o m h =
-    rw (h .answer, h .newer, h .stored, h .charges, h .lighter, h .freed, m, marked-keep (isReplaced (v .no) (staged s)) (t .entries))

@@ -5,4 +5,5 @@ pub mod SizeLaws
 pub mod SurveyLaws
 pub mod CommitLaws
 pub mod CheckLaws
+pub mod StoreLaws
 pub mod WithinRows

@@ -1,38 +1,29 @@
--- The sums of sizes and the rent that a commit tests. Assumes nothing.
-use mathlib.Core.Path.{_≡_, refl, sym, _∙_, ap}
+-- The loop over the staged sizes, and the rent that a commit tests. Assumes nothing.
+use mathlib.Core.Path.{_≡_, refl, _∙_}
 use mathlib.Core.Bool.{Bool, true}
-use mathlib.Core.List.{List, [], _∷_, map}
+use mathlib.Core.List.{List, [], _∷_}
 use Prim.Native.Nat.{ℕ, _+_, _*_, _<_, _≤_, _^_}
 use native.Mathlib.Omega.{arith}
 use mir.Val.{Fits}
 use mir.Syntax.{w64}
-use borrow.Author.Tests.{leb-true}
 use borrow.Author.Needs.{needs}
 use lib.Dec.{ltb}
 use lib.ListN.{take, getD, length-take}
 use lib.Seq.{getD-take}
-use Rattle.lists.specs.Lists.{allOf, keep, sumOf, total}
-use Rattle.lists.specs.TestLaws.{all-at}
-use Rattle.lists.specs.RowLaws.{rows-length, sum-total}
-use Rattle.lists.specs.SumLaws.{sum-le, total-append}
+use Rattle.lists.specs.Lists.{allOf, sumOf, total}
+use Rattle.lists.specs.RowLaws.{rows-length}
 use Rattle.lists.specs.LoopLaws.{SumLoop, sum-start, sum-all, sum-adds, sum-within}
-use Rattle.rules.specs.declared.VolumeNo.{VolumeNo}
 use Rattle.rules.specs.declared.Volume.{Volume}
-use Rattle.rules.specs.declared.Entry.{Entry}
 use Rattle.rules.specs.declared.Put.{Put}
-use Rattle.rules.specs.declared.Tables.{Tables}
-use Rattle.rules.specs.Limits.{sizeLimit}
-use Rattle.rules.specs.Fresh.{freshPut}
 use Rattle.rules.specs.Sound.{shardsFit}
-use Rattle.rules.specs.Rent.{sizeOf, rentFor}
-use Rattle.rules.specs.Scope.{passesCap}
-use Rattle.rules.specs.Commit.{putSize, stagedBytes, isKept, sizesAfter, passesSize, belowRent}
+use Rattle.rules.specs.Rent.{rentFor}
+use Rattle.rules.specs.Commit.{putSize}
 use Rattle.rents.specs.declared.Rent.{Rent}
 use Rattle.rents.specs.declared.Rent.the-variants.{Coins, PastLimits}
 use Rattle.rents.specs.Within.{rentWithin}
 use Rattle.rents.specs.WithinLaws.{rent-within}
 use Rattle.commits.specs.Within.{putWithin}
-use Rattle.commits.specs.Stored.{keptBytes}
+use Rattle.commits.specs.CommitSums.{staged-small}
 use Rattle.commits.proofs.QuotaLaws.{part-size}
 
 -- a sum over the first rows of a table: the row's number is added, and the sum is no more than the whole
@@ -48,23 +39,15 @@ module _ {A : Type 0} (d : A) (f : A → ℕ) (l : List A) (k n i sum : ℕ) (h 
 
 -- the staged sizes
 module _ (puts : List Put) (count : ℕ) (few : count ≤ 8) (fit : allOf putWithin (take count puts) ≡ true) where
-  pub staged-small : stagedBytes (take count puts) ≤ 8 * 2 ^ 36
-  unfolding putWithin
-  staged-small =
-      let m =
-      sum-le putSize sizeLimit (take count puts) freshPut
-      (λ j h. leb-true (getD (take count puts) j freshPut .size) sizeLimit (all-at putWithin (take count puts) fit j h freshPut)) in
-      omega (arith, m, length-take count puts)
-
   module _ (n i sum : ℕ) (h : SumLoop putSize (take count puts) n i sum) where
     pub staged-fits : (d : Put) → i < n → Fits w64 (sum + getD puts i d .size)
-    staged-fits d w = record { fits = omega (arith, sum-within-part d putSize puts count n i sum h w, staged-small) }
+    staged-fits d w = record { fits = omega (arith, sum-within-part d putSize puts count n i sum h w, staged-small puts count few fit) }
 
     pub staged-adds : (d : Put) → i < n → SumLoop putSize (take count puts) n (i + 1) (sum + getD puts i d .size)
     staged-adds d w = sum-adds-part d putSize puts count n i sum h w
 
     pub staged-most : n ≤ i → sum ≤ 8 * 2 ^ 36
-    staged-most w = rw (sum-all putSize (take count puts) n i sum h w) staged-small
+    staged-most w = rw (sum-all putSize (take count puts) n i sum h w) (staged-small puts count few fit)
 
 pub ruleset stages = (staged-adds, staged-fits, staged-most, sum-all, sum-start, part-size, rows-length, needs)
 
@@ -80,26 +63,3 @@ module _ (rate : ℕ) (v : Volume) (raw : ℕ) (f : Rent) (e : f ≡ rentWithin 
 
   pub rent-past : f ≡ PastLimits → true ≡ ltb (v .balance) (rentFor rate v (raw ∷ []))
   rent-past q = let z : _≡_ {A = ℕ} 0 1 = cc one-rent in absurd (omega arith)
-
--- the sizes after the commit come to the bytes that stay and the staged ones
-pub after-total : (n : VolumeNo) (ps : List Put) (es : List Entry) → total (sizesAfter n ps es) ≡ keptBytes n ps es + stagedBytes ps
-unfolding sizesAfter keptBytes
-after-total n ps es =
-    total-append (map sizeOf (keep (isKept n ps) es)) (map putSize ps) ∙ ap (λ (m : ℕ). total (map sizeOf (keep (isKept n ps) es)) + m) (sym (sum-total putSize ps))
-
-module _ (t : Tables) (v : Volume) (ps : List Put) (kept bytes : ℕ) (e : kept ≡ keptBytes (v .no) ps (t .entries)) (f : bytes ≡ stagedBytes ps) where
-  sum : total (sizesAfter (v .no) ps (t .entries)) ≡ kept + bytes
-  sum = after-total (v .no) ps (t .entries) ∙ rw (e, f)
-
-  pub size-passes : (b : Bool) → b ≡ passesCap (v .cap) (kept + bytes) → b ≡ passesSize t v ps
-  unfolding passesSize
-  size-passes b q = rw sum q
-
-  pub rent-passes : (b : Bool) → shardsFit (v .k) (v .m) ≡ true → kept ≤ 64 * 2 ^ 36 → bytes ≤ 8 * 2 ^ 36 → b ≡ ltb (v .balance) (rentFor (t .rate) v ((kept + bytes) ∷ []))
-      → b ≡ belowRent t v ps
-  unfolding belowRent total
-  rent-passes b shards h k q =
-      let one = rent-within (t .rate) v ((kept + bytes) ∷ []) (kept + bytes) (omega arith) shards (omega arith) in
-      let all = rent-within (t .rate) v (sizesAfter (v .no) ps (t .entries)) (kept + bytes) sum shards (omega arith) in
-      let z : rentFor (t .rate) v ((kept + bytes) ∷ []) ≡ rentFor (t .rate) v (sizesAfter (v .no) ps (t .entries)) = cc in
-      rw (← z) q

@@ -17,14 +17,14 @@ use Rattle.rules.specs.declared.Put.{Put}
 use Rattle.rules.specs.declared.Session.{Session}
 use Rattle.rules.specs.Limits.{putRows, entryRows, lastVersion}
 use Rattle.rules.specs.Numbers.{BAD, NO-VOLUME, NO-TOKEN, WINDOW, STATE, CONFLICT, SPENT, QUOTA, SIZE, ROOM, RENT, NO-PLACE}
-use Rattle.rules.specs.Tables.{staged, usedEntry, inVolume, isVolume, isToken}
+use Rattle.rules.specs.Tables.{staged, usedEntry, inVolume, isVolume}
 use Rattle.rules.specs.Scope.{inWindow, passesCap, passesQuota, family}
 use Rattle.rules.specs.Sound.{shardsFit}
 use Rattle.rules.specs.Rent.{rentFor}
 use Rattle.rules.specs.VolumeCalls.{isActive}
 use Rattle.rules.specs.Commit.{Placed, noPlace, placed, stagedBytes, isReplaced, isNewPath, placeAll}
-use Rattle.rows.specs.Blank.{blankVolume, blankToken}
-use Rattle.commits.specs.Within.{volumeWithin, entryWithin, tokenWithin, relayWithin, putWithin, sessionWithin}
+use Rattle.rows.specs.Blank.{blankVolume}
+use Rattle.commits.specs.Within.{volumeWithin, entryWithin, relayWithin, putWithin, sessionWithin}
 use Rattle.commits.specs.Stored.{keptBytes}
 
 -- 5: "clock outside the token's window"; 8: "status doesn't allow the call"; 9: "volume's version isn't the one at opening"; 21: the version has
@@ -66,20 +66,23 @@ unfoldable pub faultAt : ℕ → ℕ → List Token → List Relay → Session �
 faultAt clock rate tokens relays s kept rows v miss = NO-TOKEN
 faultAt clock rate tokens relays s kept rows v (hit j k) = rowsFault clock rate tokens relays s kept rows v k
 
--- 2
-unfoldable pub faultIn : ℕ → ℕ → List Token → List Relay → Session → ℕ → ℕ → Hit Volume → ℕ
-faultIn clock rate tokens relays s kept rows miss = NO-VOLUME
-faultIn clock rate tokens relays s kept rows (hit i v) = faultAt clock rate tokens relays s kept rows v (find (isToken (s .token)) tokens)
+-- the row of a token, where `there` says whether there is one
+abbrev pub rowIf : Bool → Token → Hit Token
+rowIf there k = cond there (hit 0 k) miss
 
--- the limits, where `within` says whether the entries are within theirs
-unfoldable pub partsWithin : List Volume → Bool → List Token → List Relay → Session → Bool
-partsWithin volumes within tokens relays s =
-    sessionWithin s && allOf volumeWithin volumes && within && allOf tokenWithin tokens && allOf relayWithin relays
+-- 2, where h is the token's row
+unfoldable pub faultBy : ℕ → ℕ → List Token → List Relay → Session → ℕ → ℕ → Hit Token → Hit Volume → ℕ
+faultBy clock rate tokens relays s kept rows h miss = NO-VOLUME
+faultBy clock rate tokens relays s kept rows h (hit i v) = faultAt clock rate tokens relays s kept rows v h
 
--- 1, then by the rows
-unfoldable pub checkFault : ℕ → ℕ → List Volume → List Token → List Relay → Session → Bool → ℕ → ℕ → ℕ
-checkFault clock rate volumes tokens relays s within kept rows =
-    cond (not (partsWithin volumes within tokens relays s)) BAD (faultIn clock rate tokens relays s kept rows (find (isVolume (s .volume)) volumes))
+-- the limits that the sums of the checks rest on
+unfoldable pub canCheck : List Volume → List Relay → Session → ℕ → Bool
+canCheck volumes relays s kept = sessionWithin s && allOf volumeWithin volumes && allOf relayWithin relays && leb kept (64 * 2 ^ 36)
+
+-- 1, then by the rows, where h is the token's row
+unfoldable pub rowsNumber : ℕ → ℕ → List Volume → List Token → List Relay → Session → Hit Token → ℕ → ℕ → ℕ
+rowsNumber clock rate volumes tokens relays s h kept rows =
+    cond (not (canCheck volumes relays s kept)) BAD (faultBy clock rate tokens relays s kept rows h (find (isVolume (s .volume)) volumes))
 
 -- what the placing of a session's puts rests on
 pub record Ready (relays : List Relay) (s : Session) (v : Volume) : Type 0 where
@@ -92,11 +95,9 @@ pub record Ready (relays : List Relay) (s : Session) (v : Volume) : Type 0 where
 pub record PlacedIf (number clock : ℕ) (relays : List Relay) (s : Session) (v : Volume) (places : List Placement) (rs : List Relay) : Type 0 where
   pub placing : number ≡ 0 → placingOf clock relays s v ≡ placed places rs
 
--- the rows of a session's volume and token, and the placing, which are known where the number of the checks is 0
-pub record RowsIf (number clock : ℕ) (volumes : List Volume) (tokens : List Token) (relays : List Relay) (s : Session) (i j : ℕ) (places : List Placement)
-    (rs : List Relay) : Type 0 where
+-- the row of a session's volume, and the placing, which are known where the number of the checks is 0
+pub record RowsIf (number clock : ℕ) (volumes : List Volume) (relays : List Relay) (s : Session) (i : ℕ) (places : List Placement) (rs : List Relay) : Type 0 where
   pub volume : number ≡ 0 → find (isVolume (s .volume)) volumes ≡ hit i (getD volumes i blankVolume)
-  pub token : number ≡ 0 → find (isToken (s .token)) tokens ≡ hit j (getD tokens j blankToken)
   pub placing : number ≡ 0 → placingOf clock relays s (getD volumes i blankVolume) ≡ placed places rs
 
 -- the bytes of an entry that stays: it is the volume's, and its mark is not set; an entry past its limit counts as nothing

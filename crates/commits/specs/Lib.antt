@@ -4,3 +4,5 @@ pub mod Within
 pub mod Stored
 pub mod Checks
 pub mod WithinLaws
+pub mod CommitSums
+pub mod CommitSteps

@@ -1,10 +1,11 @@
 -- Parts of the rule of commit under names of their own, as the code has them. Assumes nothing.
 use mathlib.Core.Path.{_≡_}
-use mathlib.Core.Bool.{Bool, cond}
+use mathlib.Core.Bool.{Bool, true, false, _&&_, cond}
 use mathlib.Core.List.{List, map}
 use Prim.Native.Nat.{ℕ, _+_}
-use lib.ListN.{set}
-use Rattle.lists.specs.Lists.{keep, total}
+use lib.Dec.{ltb}
+use lib.ListN.{take, getD, set}
+use Rattle.lists.specs.Lists.{allOf, keep, total}
 use Rattle.rules.specs.declared.VolumeNo.{VolumeNo}
 use Rattle.rules.specs.declared.Placement.{Placement}
 use Rattle.rules.specs.declared.Volume.{Volume}
@@ -12,15 +13,20 @@ use Rattle.rules.specs.declared.Entry.{Entry}
 use Rattle.rules.specs.declared.Token.{Token}
 use Rattle.rules.specs.declared.Relay.{Relay}
 use Rattle.rules.specs.declared.Put.{Put}
+use Rattle.rules.specs.declared.Session.{Session}
+use Rattle.rules.specs.Limits.{volumeRows, lastVersion}
+use Rattle.rules.specs.Numbers.{BAD}
 use Rattle.rules.specs.Fresh.{freshSession}
 use Rattle.rules.specs.Tables.{withVersion}
 use Rattle.rules.specs.Scope.{family}
 use Rattle.rules.specs.Relays.{lightened}
 use Rattle.rules.specs.Rent.{sizeOf}
-use Rattle.rules.specs.Outcome.{success}
+use Rattle.rules.specs.Outcome.{refusal, success}
 use Rattle.rules.specs.Commit.{Placed, noPlace, placed, isKept, storeAll, charged, stagedBytes}
+use Rattle.rows.specs.Blank.{blankVolume}
 use Rattle.entries.specs.Marks.{marked}
 use Rattle.commits.specs.declared.CommitOutcome.{CommitOutcome}
+use Rattle.commits.specs.Within.{tokenWithin, sessionWithin}
 
 -- what placing the puts came to: the placements, one for each put, and the relay table after them
 abbrev pub placedBy : Bool → List Placement → List Relay → Placed
@@ -40,3 +46,16 @@ pub record StoredAs (volumes : List Volume) (entries : List Entry) (tokens : Lis
   pub charges : o .tokens ≡ map (charged (family tokens k) (stagedBytes ps)) tokens
   pub lighter : o .relays ≡ map (lightened volumes (marked marks entries)) rs
   pub freed : o .session ≡ freshSession
+
+-- what storing rests on: the volume's row i is in the table, its version is not the last, and the session and the tokens are within their limits
+unfoldable pub canStore : List Volume → List Token → Session → ℕ → Bool
+canStore volumes tokens s i =
+    ltb i volumeRows && ltb (getD volumes i blankVolume .version) lastVersion && sessionWithin s && allOf tokenWithin tokens
+
+-- what storing leaves: the session's puts stored by the token k, the first of the places for each; or 1 and nothing changed, with the relays `rs`
+pub record StoredIf (volumes : List Volume) (entries : List Entry) (tokens : List Token) (marks : List Bool) (k : Token) (s : Session) (i : ℕ)
+    (places : List Placement) (rs : List Relay) (o : CommitOutcome) : Type 0 where
+  pub stored : canStore volumes tokens s i ≡ true
+      → StoredAs volumes entries tokens marks i (getD volumes i blankVolume) k (take (s .count) (s .puts)) (take (s .count) places) rs o
+  pub kept : canStore volumes tokens s i ≡ false
+      → o ≡ record { answer = refusal BAD; volumes = volumes; entries = entries; tokens = tokens; relays = rs; session = s }

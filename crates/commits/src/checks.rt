@@ -5,20 +5,20 @@ ghost use mathlib.Core.Bool.{true};
 ghost use Prim.Native.Nat.{_*_, _<_, _≤_, _^_};
 ghost use lib.ListN.{getD, take};
 ghost use Rattle.rules.specs.Sound.{shardsFit};
-ghost use Rattle.rows.specs.Blank.{blankVolume, blankToken};
-ghost use Rattle.commits.specs.Checks.{tokenFault, limitsFault, rowsFault, checkFault, Ready, PlacedIf, RowsIf};
+ghost use Rattle.rows.specs.Blank.{blankVolume};
+ghost use Rattle.commits.specs.Checks.{tokenFault, limitsFault, rowsFault, rowIf, rowsNumber, Ready, PlacedIf, RowsIf};
+use super::Checked;
+use super::Places;
 use super::family::Family;
 use super::family::family_of;
 use super::family::passes_cap;
 use super::family::passes_quotas;
-use super::places::Places;
-use super::places::no_places;
-use super::places::place_all;
+use super::placings::no_places;
+use super::placings::place_all;
 use super::sizes::below_rent;
 use super::sizes::staged_bytes;
-use super::within::in_limits;
+use super::within::can_check;
 use lists::Found;
-use rows::find_token;
 use rows::find_volume;
 use rows::in_window;
 use rows::is_active;
@@ -39,27 +39,14 @@ use rules::numbers::SPENT;
 use rules::numbers::STATE;
 use rules::numbers::WINDOW;
 
-// The number of the refusal, or 0; where it is 0, the rows of the volume and of the token, and the placements.
-pub(crate) struct Checked {
-    pub number: u32,
-    pub row: usize,
-    pub token: usize,
-    pub p: Places,
-}
-
 fn failed(number: u32, relays: [Relay; 32]) -> Checked
-    ensures { λ r. ⌜ (r .number ≡ number) × (r .row < 8) × (r .token < 32) ⌝ }
+    ensures { λ r. ⌜ (r .number ≡ number) × (r .row < 8) ⌝ }
 {
     let p = no_places(relays);
-    Checked {
-        number,
-        row: 0,
-        token: 0,
-        p,
-    }
+    Checked { number, row: 0, p }
 }
 
-// The same without the rows.
+// The number of the refusal, or 0; where it is 0, the placements.
 pub(crate) struct Placing {
     pub number: u32,
     pub p: Places,
@@ -114,7 +101,7 @@ fn limits_fault(rate: u16, v: Volume, f: Family, bytes: u64, kept: u64, rows: us
     0
 }
 
-// From the rows of the volume and the token on: their checks, then the placing of the puts.
+// From the rows of the volume and of the token k on: their checks, then the placing of the puts.
 fn rows_check(
     clock: u64,
     rate: u16,
@@ -122,16 +109,15 @@ fn rows_check(
     tokens: [Token; 32],
     relays: [Relay; 32],
     i: usize,
-    j: usize,
+    k: Token,
     s: Session,
     kept: u64,
     rows: usize,
 ) -> Placing
-    requires { ⌜ Ready relays s (getD volumes i blankVolume) × (i < 8) × (j < 32) × (kept ≤ 64 * 2 ^ 36) ⌝ }
-    ensures { λ r. ⌜ (r .number ≡ rowsFault clock rate tokens relays s kept rows (getD volumes i blankVolume) (getD tokens j blankToken)) × PlacedIf (r .number) clock relays s (getD volumes i blankVolume) (take (s .count) (r .p .places)) (r .p .rows) ⌝ }
+    requires { ⌜ Ready relays s (getD volumes i blankVolume) × (i < 8) × (kept ≤ 64 * 2 ^ 36) ⌝ }
+    ensures { λ r. ⌜ (r .number ≡ rowsFault clock rate tokens relays s kept rows (getD volumes i blankVolume) k) × PlacedIf (r .number) clock relays s (getD volumes i blankVolume) (take (s .count) (r .p .places)) (r .p .rows) ⌝ }
 {
     let v = volumes[i];
-    let k = tokens[j];
     let fault = token_fault(clock, v, s.version, k);
     if fault != 0 {
         return unplaced(fault, relays);
@@ -150,38 +136,37 @@ fn rows_check(
     Placing { number: 0, p }
 }
 
-// All of them, where `within`, `kept` and `rows` are what was read of the entries.
-pub(crate) fn check(
+// The checks of a running session's commit, from the session's limits on. `k` is the row of its token, if it is there; `kept` and `rows` are what was
+// read of the entries.
+pub fn check_rows(
     clock: u64,
     rate: u16,
     volumes: [Volume; 8],
     tokens: [Token; 32],
     relays: [Relay; 32],
     s: Session,
-    within: bool,
+    there: bool,
+    k: Token,
     kept: u64,
     rows: usize,
 ) -> Checked
-    requires { ⌜ kept ≤ 64 * 2 ^ 36 ⌝ }
-    ensures { λ r. ⌜ (r .number ≡ checkFault clock rate volumes tokens relays s within kept rows) × RowsIf (r .number) clock volumes tokens relays s (r .row) (r .token) (take (s .count) (r .p .places)) (r .p .rows) × (r .row < 8) × (r .token < 32) ⌝ }
+    ensures { λ r. ⌜ (r .number ≡ rowsNumber clock rate volumes tokens relays s (rowIf there k) kept rows) × RowsIf (r .number) clock volumes relays s (r .row) (take (s .count) (r .p .places)) (r .p .rows) × (r .row < 8) ⌝ }
 {
-    if !in_limits(volumes, within, tokens, relays, s) {
+    if !can_check(volumes, relays, s, kept) {
         return failed(BAD, relays);
     }
     let n = s.volume;
     let Found::At(i) = find_volume(volumes, n) else {
         return failed(NO_VOLUME, relays);
     };
-    let m = s.token;
-    let Found::At(j) = find_token(tokens, m) else {
+    if !there {
         return failed(NO_TOKEN, relays);
-    };
-    let one = rows_check(clock, rate, volumes, tokens, relays, i, j, s, kept, rows);
+    }
+    let one = rows_check(clock, rate, volumes, tokens, relays, i, k, s, kept, rows);
     let p = one.p;
     Checked {
         number: one.number,
         row: i,
-        token: j,
         p,
     }
 }

@@ -1,18 +1,22 @@
 // The work of commit: a session's staged puts are stored. It reads the tables and the session, and gives back what it changes.
-// It answers for every input: a running session past the limits that its sums rest on is answered 1.
+// Its two halves, the checks and the storing, stand for themselves, each over the parts that it reads.
+// Every public function answers for every input: past the limits that its sums rest on it is answered 1.
 mod answers;
 mod charge;
 mod checks;
 mod commit;
 mod family;
-mod places;
+mod placings;
 mod sizes;
 mod survey;
 mod within;
 
+pub use checks::check_rows;
 pub use commit::commit_on;
+pub use commit::store_rows;
 use rules::Answer;
 use rules::Entry;
+use rules::Placement;
 use rules::Relay;
 use rules::Session;
 use rules::Token;
@@ -26,4 +30,18 @@ pub struct CommitOutcome {
     pub tokens: [Token; 32],
     pub relays: [Relay; 32],
     pub session: Session,
+}
+
+// A placement for each put, and the relay table after them; or that some put finds too few relays.
+pub struct Places {
+    pub placed: bool,
+    pub places: [Placement; 8],
+    pub rows: [Relay; 32],
+}
+
+// What the checks give: the number of the refusal, or 0; where it is 0, the row of the volume, and the placements.
+pub struct Checked {
+    pub number: u32,
+    pub row: usize,
+    pub p: Places,
 }

@@ -1,10 +1,12 @@
 // The limits that a commit's sums rest on.
 ghost use mathlib.Core.Path.{_≡_};
+ghost use mathlib.Core.Bool.{_&&_};
 ghost use Prim.Native.Nat.{_≤_};
 ghost use lib.ListN.{take};
 ghost use Rattle.lists.specs.Lists.{allOf};
 ghost use Rattle.commits.specs.Within.{volumeWithin, tokenWithin, relayWithin, putWithin, sessionWithin};
-ghost use Rattle.commits.specs.Checks.{partsWithin};
+ghost use Rattle.commits.specs.Checks.{canCheck};
+ghost use Rattle.commits.specs.Stored.{canStore};
 use rows::shards_fit;
 use rules::Put;
 use rules::Relay;
@@ -108,15 +110,9 @@ fn session_within(s: Session) -> bool
     all_puts(puts, s.count)
 }
 
-// Whether the tables and the session are within the limits, where `within` says it of the entries.
-pub(crate) fn in_limits(
-    volumes: [Volume; 8],
-    within: bool,
-    tokens: [Token; 32],
-    relays: [Relay; 32],
-    s: Session,
-) -> bool
-    ensures { λ r. ⌜ r ≡ partsWithin volumes within tokens relays s ⌝ }
+// Whether the sums of the checks fit: of the session, the volumes, the relays, and the bytes that stay.
+pub(crate) fn can_check(volumes: [Volume; 8], relays: [Relay; 32], s: Session, kept: u64) -> bool
+    ensures { λ r. ⌜ r ≡ canCheck volumes relays s kept ⌝ }
 {
     if !session_within(s) {
         return false;
@@ -124,11 +120,34 @@ pub(crate) fn in_limits(
     if !all_volumes(volumes) {
         return false;
     }
+    if !all_relays(relays) {
+        return false;
+    }
+    kept <= 4398046511104
+}
+
+// Whether the puts can be stored: the volume's row is in the table, its version is not the last, and the session and the tokens are within their limits.
+pub(crate) fn can_store(volumes: [Volume; 8], tokens: [Token; 32], s: Session, row: usize) -> bool
+    ensures { λ r. ⌜ r ≡ canStore volumes tokens s row ⌝ }
+{
+    if 8 <= row {
+        return false;
+    }
+    if 4294967295 <= volumes[row].version {
+        return false;
+    }
+    if !session_within(s) {
+        return false;
+    }
+    all_tokens(tokens)
+}
+
+// Whether the entries, of which `within` says it, and the tokens are within their limits.
+pub(crate) fn others_within(within: bool, tokens: [Token; 32]) -> bool
+    ensures { λ r. ⌜ r ≡ (within && allOf tokenWithin tokens) ⌝ }
+{
     if !within {
         return false;
     }
-    if !all_tokens(tokens) {
-        return false;
-    }
-    all_relays(relays)
+    all_tokens(tokens)
 }

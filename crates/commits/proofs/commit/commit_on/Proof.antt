@@ -1,7 +1,7 @@
 -- `commit::commit_on` meets its contract: the checks, then what is stored. Assumes nothing.
 use Rattle.lists.specs.AnswerLaws.{checks}
 use Rattle.commits.specs.Within.{commitWithin}
-use Rattle.commits.proofs.CheckLaws.{passed-version, passed-count, passed-puts, passed-tokens, check-refused, check-passed}
+use Rattle.commits.proofs.CheckLaws.{limits-refused, check-refused, check-passed}
 use borrow.Author.Needs.{needs}
 use Rattle.commits.proofs.commit.commit_on.Statement.{statement}
 use Rattle.commits.proofs.commit.commit_on.Tie as tie
@@ -16,6 +16,9 @@ commit-on-spec =
     (λ c. search checks)  -- SESSION
     (λ c κs. search needs)
     (λ c κs. search needs)
+    (λ c. search limits-refused)  -- BAD
+    (λ c κs. search needs)
+    (λ c κs. search needs)
     (λ c. search check-refused)
-    (λ c κs. (search needs, search needs, search passed-version, search passed-count, search passed-puts, search passed-tokens))
+    (λ c κs. search needs)
     (λ c. search check-passed))

@@ -1,9 +1,9 @@
--- `places::place_all` meets its contract: put after put, each as the rule places it. Assumes nothing.
+-- `placings::place_all` meets its contract: put after put, each as the rule places it. Assumes nothing.
 use Prim.Native.Nat.{_-_}
 use lib.ListN.{take}
 use Rattle.commits.proofs.PlaceLoops.{PlaceLoop, places}
-use Rattle.commits.proofs.places.place_all.Statement.{statement}
-use Rattle.commits.proofs.places.place_all.Tie as tie
+use Rattle.commits.proofs.placings.place_all.Statement.{statement}
+use Rattle.commits.proofs.placings.place_all.Tie as tie
 
 pub place-all-spec : {M : Type 1} → statement M
 place-all-spec =
