@@ -1,3 +1,5 @@
+pub mod EntryLists
+pub mod EntryListLaws
 pub mod Keys
 pub mod Marks
 pub mod MarkLaws
