@@ -1,40 +1,36 @@
--- What a commit reads of the entries: the walk over them, the bytes that stay, and the puts of new paths. Assumes nothing.
+-- What a commit reads of the entries: the walk over them, and what it comes to. Assumes nothing.
 use mathlib.Core.Path.{_≡_, refl, sym, _∙_}
 use mathlib.Core.Bool.{Bool, true, false, _&&_, cond, not, and-assoc, and-true, and-false}
 use mathlib.Core.List.{List, [], _∷_, map}
-use Prim.Native.Nat.{ℕ, suc, _+_, _*_, _<_, _≤_, _^_, min}
+use Prim.Native.Nat.{ℕ, _+_, _*_, _<_, _≤_, _^_, min}
 use native.Mathlib.Numerals.{add-one}
 use native.Mathlib.Omega.{arith}
 use mir.Val.{Fits}
 use mir.Syntax.{w64}
 use borrow.Author.Tests.{leb-true, le-leb, lt-leb, ne-eqb, eq-eqb}
 use borrow.Author.Needs.{needs}
-use lib.ListN.{length, take, drop, getD, replicate, length-take, length-map, drop-of-length-le}
+use lib.ListN.{length, take, drop, getD, replicate, length-take, drop-of-length-le}
 use lib.Seq.{drop-cons}
-use Rattle.lists.specs.Lists.{bit, allOf, anyOf, countIf, keep, sumOf}
-use Rattle.lists.specs.Bytes.{sameBytes}
-use Rattle.lists.specs.ByteLaws.{same-symmetric}
+use Rattle.lists.specs.Lists.{bit, allOf, anyOf, countIf}
 use Rattle.lists.specs.BoolLaws.{and-left, and-right, not-both}
-use Rattle.lists.specs.TestLaws.{all-end, none-at, at-none}
-use Rattle.lists.specs.RowLaws.{rows-length, sum-total, map-row}
-use Rattle.lists.specs.SumLaws.{bit-lt, count-le, sum-keep, count-end}
+use Rattle.lists.specs.TestLaws.{all-end}
+use Rattle.lists.specs.RowLaws.{rows-length}
+use Rattle.lists.specs.SumLaws.{bit-lt, count-le, count-end}
 use Rattle.lists.specs.AnswerLaws.{none-given, some-given}
-use Rattle.text.specs.Text.{textBytes}
 use Rattle.rules.specs.declared.VolumeNo.{VolumeNo}
 use Rattle.rules.specs.declared.Entry.{Entry}
 use Rattle.rules.specs.declared.Put.{Put}
 use Rattle.rules.specs.Limits.{sizeLimit}
-use Rattle.rules.specs.Tables.{usedEntry, freeEntry, inVolume, isEntry, isPut}
-use Rattle.rules.specs.Rent.{sizeOf}
+use Rattle.rules.specs.Tables.{usedEntry, freeEntry, inVolume}
 use Rattle.rules.specs.Laws.ApartLaws.{used-not-free, other-part}
 use Rattle.rules.specs.Laws.NumberLaws.{numbered-used}
-use Rattle.rules.specs.Commit.{isReplaced, isKept, isNewPath}
-use Rattle.rows.specs.Blank.{blankEntry, blankPut}
+use Rattle.rules.specs.Commit.{isReplaced, isNewPath}
+use Rattle.rows.specs.Blank.{blankEntry}
 use Rattle.rows.specs.EntryLaws.{not-in-volume}
 use Rattle.entries.specs.Marks.{isSet}
 use Rattle.commits.specs.Within.{entryWithin}
-use Rattle.commits.specs.Stored.{keptBytes}
 use Rattle.commits.specs.Checks.{leftSize, leftBytes, Surveyed}
+use Rattle.commits.specs.SurveyedLaws.{all-new, survey-of}
 
 -- an entry within its limit adds no more than that
 left-most : (n : VolumeNo) (b : Bool) (e : Entry) → leftSize n b e ≤ 2 ^ 36
@@ -159,32 +155,6 @@ module _ (n : VolumeNo) (ms : List Bool) (es : List Entry) where
 
 pub ruleset tallies = (tally-all, tally-left, tally-small, tally-used, tally-few, tally-start, rows-length, needs)
 
--- the bytes of the entries that stay: what each entry adds
-abbrev keptSize : VolumeNo → List Put → Entry → ℕ
-keptSize n ps e = cond (isKept n ps e) (e .size) 0
-
-kept-sum : (n : VolumeNo) (ps : List Put) (es : List Entry) → sumOf (keptSize n ps) es ≡ keptBytes n ps es
-unfolding keptBytes
-kept-sum n ps es = sym (sum-keep sizeOf (keptSize n ps) (isKept n ps) es (λ e. refl)) ∙ sum-total sizeOf (keep (isKept n ps) es)
-
-stays-unless : (a b : Bool) → (a && not (a && b)) ≡ (a && not b)
-stays-unless true b = refl
-stays-unless false b = refl
-
-left-sum : (n : VolumeNo) (ps : List Put) (es : List Entry) → allOf entryWithin es ≡ true → leftBytes n (map (isReplaced n ps) es) es ≡ sumOf (keptSize n ps) es
-unfolding leftBytes allOf sumOf isReplaced isKept
-left-sum n ps [] w = refl
-left-sum n ps (e ∷ es) w =
-    rw (
-      and-left (entryWithin e) (allOf entryWithin es) w,
-      stays-unless (inVolume n e) (anyOf (isPut (textBytes (e .path))) ps),
-      left-sum n ps es (and-right (entryWithin e) (allOf entryWithin es) w),
-    )
-
-left-kept : (n : VolumeNo) (ps : List Put) (es : List Entry) (ms : List Bool) → ms ≡ map (isReplaced n ps) es → allOf entryWithin es ≡ true
-    → leftBytes n ms es ≡ keptBytes n ps es
-left-kept n ps es ms e w = rw e (left-sum n ps es w ∙ kept-sum n ps es)
-
 -- no puts replace nothing
 no-marks : {A : Type 0} (p : A → Bool) (l : List A) → ((x : A) → p x ≡ false) → map p l ≡ replicate (length l) false
 no-marks p [] f = refl
@@ -198,58 +168,23 @@ none-replaced : (n : VolumeNo) (count : ℕ) (puts : List Put) (es : List Entry)
     → replicate 64 false ≡ map (isReplaced n (take count puts)) es
 none-replaced n count puts es z l = rw z (rw l at (sym (no-marks (isReplaced n []) es (never n))))
 
--- where no entry is replaced every put is new
-other-path : (n : VolumeNo) (ps : List Put) (x : Entry) (j : ℕ) → j < length ps → isReplaced n ps x ≡ false
-    → isEntry n (textBytes (getD ps j blankPut .path)) x ≡ false
-unfolding isEntry isReplaced isPut
-other-path n ps x j h = go (inVolume n x)
-  where
-    go : (a : Bool) → (a && anyOf (isPut (textBytes (x .path))) ps) ≡ false → (a && sameBytes (textBytes (x .path)) (textBytes (getD ps j blankPut .path))) ≡ false
-    go false r = refl
-    go true r =
-        same-symmetric (textBytes (x .path)) (textBytes (getD ps j blankPut .path)) ∙ none-at (isPut (textBytes (x .path))) ps r j h blankPut
-
-count-each : {A : Type 0} (p : A → Bool) (l : List A) (d : A) → ((j : ℕ) → j < length l → p (getD l j d) ≡ true) → countIf p l ≡ length l
-unfolding countIf
-count-each p [] d f = refl
-count-each p (x ∷ xs) d f = rw (f 0 (omega arith)) (omega (arith, count-each p xs d (λ j h. f (suc j) (omega arith))))
-
-module _ (n : VolumeNo) (es : List Entry) (ps : List Put) (e : anyOf isSet (map (isReplaced n ps) es) ≡ false) where
-  not-marked : (i : ℕ) → i < length es → isReplaced n ps (getD es i blankEntry) ≡ false
-  not-marked i k =
-      sym (map-row (isReplaced n ps) es i blankEntry false k)
-      ∙ none-at isSet (map (isReplaced n ps) es) e i (rw (length-map es (isReplaced n ps)) k) false
-
-  new-one : (j : ℕ) → j < length ps → isNewPath n es (getD ps j blankPut) ≡ true
-  unfolding isNewPath
-  new-one j h =
-      rw (at-none (isEntry n (textBytes (getD ps j blankPut .path))) es blankEntry (λ i k. other-path n ps (getD es i blankEntry) j h (not-marked i k)))
-
-  all-new : countIf (isNewPath n es) ps ≡ length ps
-  all-new = count-each (isNewPath n es) ps blankPut new-one
-
 -- what was read
 module _ (n : VolumeNo) (count : ℕ) (puts : List Put) (es : List Entry) (ms : List Bool) (within : Bool) (kept used rows : ℕ)
     (a : within ≡ allOf entryWithin es) (b : kept ≡ leftBytes n ms es) (c : kept ≤ 64 * 2 ^ 36) (d : used ≡ countIf usedEntry es) where
-  survey-of : ms ≡ map (isReplaced n (take count puts)) es → rows ≡ countIf usedEntry es + countIf (isNewPath n es) (take count puts)
-      → Surveyed n (take count puts) es ms within kept rows
-  survey-of e f =
-      record { replaced = e; limits = a; stays = λ t. b ∙ left-kept n (take count puts) es ms e (sym a ∙ t); small = c; room = f }
-
   pub survey-none : count ≡ 0 → ms ≡ replicate 64 false → rows ≡ used → length es ≡ 64 → Surveyed n (take count puts) es ms within kept rows
   unfolding countIf
-  survey-none z m q l = survey-of (m ∙ none-replaced n count puts es z l) (rw z (omega (arith, d, q)))
+  survey-none z m q l = survey-of n count puts es ms within kept rows a b c (m ∙ none-replaced n count puts es z l) (rw z (omega (arith, d, q)))
 
   module _ (e : ms ≡ map (isReplaced n (take count puts)) es) (r : Bool) (g : r ≡ anyOf isSet ms) where
     pub survey-some : (new : ℕ) → r ≡ true → new ≡ countIf (isNewPath n es) (take count puts) → rows ≡ used + new
         → Surveyed n (take count puts) es ms within kept rows
-    survey-some new t f q = survey-of e (omega (arith, d, f, q))
+    survey-some new t f q = survey-of n count puts es ms within kept rows a b c e (omega (arith, d, f, q))
 
     pub survey-new : (new : ℕ) → r ≡ false → new ≡ min count 8 → rows ≡ used + new → length puts ≡ 8
         → Surveyed n (take count puts) es ms within kept rows
     survey-new new t f q l =
         let z = all-new n es (take count puts) (rw e at (sym g ∙ t)) in
-        survey-of e (omega (arith, d, f, q, z, length-take count puts))
+        survey-of n count puts es ms within kept rows a b c e (omega (arith, d, f, q, z, length-take count puts))
 
 -- the rows are a number of the machine
 pub new-fits : (n : VolumeNo) (count : ℕ) (puts : List Put) (es : List Entry) (used new : ℕ) → new ≡ countIf (isNewPath n es) (take count puts)

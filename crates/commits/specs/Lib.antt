@@ -6,3 +6,5 @@ pub mod Checks
 pub mod WithinLaws
 pub mod CommitSums
 pub mod CommitSteps
+pub mod NewSurvey
+pub mod SurveyedLaws

@@ -18,7 +18,7 @@ use super::answers::refuse;
 use super::charge::charge;
 use super::checks::check_rows;
 use super::sizes::staged_bytes;
-use super::survey::survey;
+use super::surveys::survey;
 use super::within::can_store;
 use super::within::others_within;
 use entries::any_mark;

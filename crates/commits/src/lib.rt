@@ -8,7 +8,7 @@ mod commit;
 mod family;
 mod placings;
 mod sizes;
-mod survey;
+mod surveys;
 mod within;
 
 pub use checks::check_rows;
@@ -21,6 +21,8 @@ use rules::Relay;
 use rules::Session;
 use rules::Token;
 use rules::Volume;
+pub use surveys::survey;
+pub use surveys::survey_new;
 
 // What a commit leaves: the volume, entry, token and relay tables, and the session.
 pub struct CommitOutcome {
@@ -44,4 +46,13 @@ pub struct Checked {
     pub number: u32,
     pub row: usize,
     pub p: Places,
+}
+
+// What a commit reads of the entries. `marks`: which entries the puts replace. `within`: whether the entries are within their limits; where they are,
+// `kept` are the bytes of the volume's entries that stay. `rows`: how many rows are in use, and how many more the puts need.
+pub struct Findings {
+    pub marks: [bool; 64],
+    pub within: bool,
+    pub kept: u64,
+    pub rows: usize,
 }

@@ -1,10 +1,10 @@
--- `survey::tally` meets its contract: what was said and counted, with the entries that are left, is the whole. Assumes nothing.
+-- `surveys::tally` meets its contract: what was said and counted, with the entries that are left, is the whole. Assumes nothing.
 use mathlib.Core.Logic.{⊎-elim}
 use Prim.Native.Nat.{_-_}
 use Rattle.commits.proofs.SurveyLaws.{TallyLoop, tallies, tally-over, tally-adds, tally-replaced, tally-other, tally-free}
 use borrow.Author.Needs.{needs}
-use Rattle.commits.proofs.survey.tally.Statement.{statement}
-use Rattle.commits.proofs.survey.tally.Tie as tie
+use Rattle.commits.proofs.surveys.tally.Statement.{statement}
+use Rattle.commits.proofs.surveys.tally.Tie as tie
 
 pub tally-spec : {M : Type 1} → statement M
 tally-spec =

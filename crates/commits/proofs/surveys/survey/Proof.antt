@@ -1,8 +1,8 @@
--- `survey::survey` meets its contract: by whether there are puts, and whether they replace an entry. Assumes nothing.
+-- `surveys::survey` meets its contract: by whether there are puts, and whether they replace an entry. Assumes nothing.
 use Rattle.commits.proofs.SurveyLaws.{surveys}
 use borrow.Author.Needs.{needs}
-use Rattle.commits.proofs.survey.survey.Statement.{statement}
-use Rattle.commits.proofs.survey.survey.Tie as tie
+use Rattle.commits.proofs.surveys.survey.Statement.{statement}
+use Rattle.commits.proofs.surveys.survey.Tie as tie
 
 pub survey-spec : {M : Type 1} → statement M
 survey-spec =
