@@ -6,7 +6,7 @@ use mathlib.Core.List.{List, map}
 use Prim.Native.Nat.{ℕ, _+_, _*_, _<_, _≤_, _^_}
 use native.Mathlib.Omega.{arith}
 use borrow.Author.Tests.{ne-eqb, eqb-true, leb-true, leb-false, le-leb, lt-ltb}
-use lib.Dec.{eqb, leb, ltb}
+use lib.Dec.{eqb, leb}
 use lib.ListN.{take, getD}
 use Rattle.lists.specs.Lists.{Hit, hit, miss, find, allOf, countIf}
 use Rattle.lists.specs.BoolLaws.{and-left, and-right, and-both}
@@ -21,7 +21,7 @@ use Rattle.rules.specs.declared.Session.{Session}
 use Rattle.rules.specs.declared.Tables.{Tables}
 use Rattle.rules.specs.declared.SlotOutcome.{SlotOutcome}
 use Rattle.rules.specs.Limits.{putRows, lastVersion}
-use Rattle.rules.specs.Numbers.{BAD, NO-TOKEN, WINDOW, STATE, CONFLICT, SPENT, QUOTA, SIZE, ROOM, RENT, SESSION}
+use Rattle.rules.specs.Numbers.{BAD, WINDOW, STATE, CONFLICT, SPENT, QUOTA, SIZE, ROOM, RENT, SESSION}
 use Rattle.rules.specs.Tables.{staged, usedEntry, freeVolume, isVolume, volumeOf, tokenOf}
 use Rattle.rules.specs.Scope.{inWindow, family}
 use Rattle.rules.specs.Sound.{shardsFit}

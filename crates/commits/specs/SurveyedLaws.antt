@@ -28,11 +28,10 @@ use Rattle.rules.specs.Commit.{isReplaced, isKept, isNewPath}
 use Rattle.rows.specs.Blank.{blankEntry, blankPut}
 use Rattle.entries.specs.Marks.{isSet}
 use Rattle.entries.specs.EntryLists.{ownerOf}
-use Rattle.commits.specs.declared.Findings.{Findings}
 use Rattle.commits.specs.Within.{entryWithin}
 use Rattle.commits.specs.Stored.{keptBytes}
-use Rattle.commits.specs.Checks.{leftSize, leftBytes, Surveyed}
-use Rattle.commits.specs.NewSurvey.{rowWithin, rowBytes, listsWithin, listsBytes, listsRead, findingsNew}
+use Rattle.commits.specs.Checks.{leftBytes, Surveyed}
+use Rattle.commits.specs.NewSurvey.{rowWithin, rowBytes, listsWithin, listsBytes, findingsNew}
 
 -- the bytes of the entries that stay: what each entry adds
 abbrev keptSize : VolumeNo → List Put → Entry → ℕ

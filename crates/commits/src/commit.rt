@@ -36,8 +36,7 @@ use rules::Volume;
 use rules::numbers::BAD;
 use rules::numbers::SESSION;
 
-// The puts are stored, the bytes are charged, replaced entries give their room back, and the volume has a new version. Without puts the entries are not
-// handed on, and where nothing is replaced no room is given back.
+// The storing, where it can be done. Without puts the entries are not handed on, and where nothing is replaced no room is given back.
 fn store(
     volumes: [Volume; 8],
     entries: [Entry; 64],
@@ -89,8 +88,9 @@ fn store(
     }
 }
 
-// The same for any input. 1, and nothing changes, where the row is past the volumes, the version is at its end, or the session or the tokens are past
-// their limits.
+// The puts are stored as the checks placed them, the bytes are charged to the token `k` and its ancestors, replaced entries, which are marked, give their
+// room back, and the volume has a new version. 1, with the relays of `c` and the rest as it came, where the row is past the volumes, the version is at
+// its end, or the session or the tokens are past their limits.
 pub fn store_rows(
     volumes: [Volume; 8],
     entries: [Entry; 64],

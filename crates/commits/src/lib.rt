@@ -1,6 +1,6 @@
 // The work of commit: a session's staged puts are stored. It reads the tables and the session, and gives back what it changes.
-// Its two halves, the checks and the storing, stand for themselves, each over the parts that it reads.
-// Every public function answers for every input: past the limits that its sums rest on it is answered 1.
+// Its steps stand for themselves, each over the parts that it reads: what it needs of the entries, the checks, and the storing.
+// Every public function answers for every input: past the limits that their sums rest on, the checks and the storing answer 1.
 mod answers;
 mod charge;
 mod checks;
