@@ -1,7 +1,7 @@
 -- What each rule on a session answers: `X-none` where there is no row, `X-at` at the row that there is. What a function said of all tables holds of
 -- these; and the answers that hold what another function of the code made. Assumes nothing.
 use mathlib.Core.List.{List}
-use mathlib.Core.Bool.{Bool, true, false, not, cond}
+use mathlib.Core.Bool.{Bool, true, false, not}
 use mathlib.Core.Path.{_≡_, refl, sym, _∙_}
 use Prim.Native.Nat.{ℕ}
 use borrow.Author.Tests.{not-true, not-false}
@@ -31,6 +31,8 @@ use Rattle.rules.specs.SessionCalls.{openRule, openToken, openVolume, newPut, s
 use Rattle.rows.specs.Blank.{blankVolume, blankToken, blankPut}
 use Rattle.sessions.specs.declared.SessionOutcome.{SessionOutcome}
 use Rattle.sessions.specs.Parts.{onSession}
+use Rattle.sessions.specs.Rows.{rowIf, openFound, stageFound}
+use Rattle.sessions.specs.RowLaws.{open-by-row, stage-by-row}
 
 module _ (t : Tables) (r : SessionOutcome) where
   -- a refusal, success with a session that another function made, and abandon: said of all tables
@@ -44,31 +46,23 @@ module _ (t : Tables) (r : SessionOutcome) where
   abandons s f = f t
 
   -- the token's row, which the code was handed, if it is there
-  module _ (s : Session) (n : TokenNo) (there : Bool) (i : ℕ) (k : Token) (e : tokenOf n t ≡ cond there (hit i k) miss) where
-    no-token : not there ≡ true → tokenOf n t ≡ miss
-    no-token w = rw (not-true there w) at e
-
-    at-token : not there ≡ false → tokenOf n t ≡ hit i k
-    at-token w = rw (not-false there w) at e
-
-    pub open-none : not there ≡ true → ((u : Tables) → onSession u r ≡ slotRefused u s NO-TOKEN) → onSession t r ≡ openToken t s (tokenOf n t)
+  module _ (s : Session) (there : Bool) (k : Token) where
+    pub open-none : not there ≡ true → ((u : Tables) → onSession u r ≡ slotRefused u s NO-TOKEN) → onSession t r ≡ openToken t s (rowIf there k)
     unfolding openToken
-    open-none w f = f t ∙ sym (rw (no-token w))
+    open-none w f = f t ∙ sym (rw (not-true there w))
 
     pub open-at : (clock : ℕ) (volumes : List Volume) → not there ≡ false → t .clock ≡ clock → t .volumes ≡ volumes
-        → ((u : Tables) → u .clock ≡ clock → u .volumes ≡ volumes → onSession u r ≡ openToken u s (hit 0 k)) → onSession t r ≡ openToken t s (tokenOf n t)
-    unfolding openToken
-    open-at clock volumes w g h f = f t g h ∙ sym (rw (at-token w))
+        → ((u : Tables) → u .clock ≡ clock → u .volumes ≡ volumes → onSession u r ≡ openToken u s (hit 0 k)) → onSession t r ≡ openToken t s (rowIf there k)
+    open-at clock volumes w g h f = f t g h ∙ sym (rw (not-false there w))
 
     module _ (path : List ℕ) (size : ℕ) (h : Hash) where
-      pub stage-none : not there ≡ true → ((u : Tables) → onSession u r ≡ slotRefused u s NO-TOKEN) → onSession t r ≡ stageToken t s path size h (tokenOf n t)
+      pub stage-none : not there ≡ true → ((u : Tables) → onSession u r ≡ slotRefused u s NO-TOKEN) → onSession t r ≡ stageToken t s path size h (rowIf there k)
       unfolding stageToken
-      stage-none w f = f t ∙ sym (rw (no-token w))
+      stage-none w f = f t ∙ sym (rw (not-true there w))
 
       pub stage-at : not there ≡ false → ((u : Tables) → onSession u r ≡ stageToken u s path size h (hit 0 k))
-          → onSession t r ≡ stageToken t s path size h (tokenOf n t)
-      unfolding stageToken
-      stage-at w f = f t ∙ sym (rw (at-token w))
+          → onSession t r ≡ stageToken t s path size h (rowIf there k)
+      stage-at w f = f t ∙ sym (rw (not-false there w))
 
   -- the token's row, which the code searched for: f is what the search said
   module _ (n : TokenNo) (f : Found) (e : f ≡ firstAt (isToken n) 0 (t .tokens)) where
@@ -81,25 +75,21 @@ module _ (t : Tables) (r : SessionOutcome) where
     found i w = first-row (isToken n) (t .tokens) i (sym e ∙ w) blankToken
 
     pub opens-none : (s : Session) → f ≡ Nothing
-        → ((u : Tables) (m : TokenNo) (j : ℕ) → u .clock ≡ t .clock → u .volumes ≡ t .volumes → tokenOf m u ≡ miss → onSession u r ≡ openRule m u s)
-        → onSession t r ≡ openRule n t s
-    opens-none s w g = g t n 0 refl refl (unfound w)
+        → ((u : Tables) → u .clock ≡ t .clock → u .volumes ≡ t .volumes → onSession u r ≡ openFound u s miss) → onSession t r ≡ openRule n t s
+    opens-none s w g = g t refl refl ∙ open-by-row t s n false 0 blankToken (unfound w)
 
     pub opens-at : (s : Session) (i : ℕ) → f ≡ At i
-        → ((u : Tables) (m : TokenNo) (j : ℕ) → u .clock ≡ t .clock → u .volumes ≡ t .volumes → tokenOf m u ≡ hit j (getD (t .tokens) i blankToken)
-        → onSession u r ≡ openRule m u s)
+        → ((u : Tables) → u .clock ≡ t .clock → u .volumes ≡ t .volumes → onSession u r ≡ openFound u s (hit 0 (getD (t .tokens) i blankToken)))
         → onSession t r ≡ openRule n t s
-    opens-at s i w g = g t n i refl refl (found i w)
+    opens-at s i w g = g t refl refl ∙ open-by-row t s n true i (getD (t .tokens) i blankToken) (found i w)
 
   module _ (s : Session) (f : Found) (e : f ≡ firstAt (isToken (s .token)) 0 (t .tokens)) (path : List ℕ) (size : ℕ) (h : Hash) where
-    pub stages-none : f ≡ Nothing → ((u : Tables) (j : ℕ) → tokenOf (s .token) u ≡ miss → onSession u r ≡ stageRule path size h u s)
-        → onSession t r ≡ stageRule path size h t s
-    stages-none w g = g t 0 (unfound (s .token) f e w)
+    pub stages-none : f ≡ Nothing → ((u : Tables) → onSession u r ≡ stageFound path size h u s miss) → onSession t r ≡ stageRule path size h t s
+    stages-none w g = g t ∙ stage-by-row t s path size h false 0 blankToken (unfound (s .token) f e w)
 
-    pub stages-at : (i : ℕ) → f ≡ At i
-        → ((u : Tables) (j : ℕ) → tokenOf (s .token) u ≡ hit j (getD (t .tokens) i blankToken) → onSession u r ≡ stageRule path size h u s)
+    pub stages-at : (i : ℕ) → f ≡ At i → ((u : Tables) → onSession u r ≡ stageFound path size h u s (hit 0 (getD (t .tokens) i blankToken)))
         → onSession t r ≡ stageRule path size h t s
-    stages-at i w g = g t i (found (s .token) f e i w)
+    stages-at i w g = g t ∙ stage-by-row t s path size h true i (getD (t .tokens) i blankToken) (found (s .token) f e i w)
 
   -- the volume's row, in the volumes that the code was handed
   module _ (s : Session) (k : TokenNo) (n : VolumeNo) (volumes : List Volume) (e : t .volumes ≡ volumes) (f : Found) (g : f ≡ firstAt (isVolume n) 0 volumes) where

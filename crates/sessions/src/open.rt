@@ -1,13 +1,10 @@
 // Open.
 ghost use mathlib.Core.Path.{_≡_};
-ghost use mathlib.Core.Bool.{cond};
-ghost use Prim.Native.Nat.{ℕ};
-ghost use Rattle.lists.specs.Lists.{hit, miss};
+ghost use Rattle.lists.specs.Lists.{hit};
 ghost use Rattle.rules.specs.declared.Tables.{Tables};
-ghost use Rattle.rules.specs.declared.TokenNo.{TokenNo};
-ghost use Rattle.rules.specs.Tables.{tokenOf};
 ghost use Rattle.rules.specs.SessionCalls.{openRule, openToken, openVolume, opened};
 ghost use Rattle.sessions.specs.Parts.{onSession};
+ghost use Rattle.sessions.specs.Rows.{rowIf, openFound};
 use super::SessionOutcome;
 use super::answers::accept;
 use super::answers::refuse;
@@ -77,8 +74,14 @@ fn open_token(clock: u64, volumes: [Volume; 8], s: Session, k: Token) -> Session
 }
 
 // A session begins in an idle slot, where these are the clock and the volumes, and `k` is the token's row, if it is there.
-fn open_row(clock: u64, volumes: [Volume; 8], s: Session, there: bool, k: Token) -> SessionOutcome
-    ensures { λ r. ⌜ ((t : Tables) (n : TokenNo) (i : ℕ) → t .clock ≡ clock → t .volumes ≡ volumes → tokenOf n t ≡ cond there (hit i k) miss → onSession t r ≡ openRule n t s) ⌝ }
+pub fn open_row(
+    clock: u64,
+    volumes: [Volume; 8],
+    s: Session,
+    there: bool,
+    k: Token,
+) -> SessionOutcome
+    ensures { λ r. ⌜ ((t : Tables) → t .clock ≡ clock → t .volumes ≡ volumes → onSession t r ≡ openFound t s (rowIf there k)) ⌝ }
 {
     if s.token.0 != 0 {
         return refuse(s, SESSION);

@@ -1,16 +1,17 @@
 // Stage.
 ghost use mathlib.Core.Path.{_≡_};
-ghost use mathlib.Core.Bool.{true, cond, _&&_};
-ghost use Prim.Native.Nat.{ℕ, _<_};
+ghost use mathlib.Core.Bool.{true, _&&_};
+ghost use Prim.Native.Nat.{_<_};
 ghost use lib.Dec.{leb};
 ghost use lib.ListN.{take};
-ghost use Rattle.lists.specs.Lists.{hit, miss, find};
+ghost use Rattle.lists.specs.Lists.{hit, find};
 ghost use Rattle.text.specs.Text.{pathLimit, isPath};
 ghost use Rattle.rules.specs.declared.Tables.{Tables};
 ghost use Rattle.rules.specs.Limits.{sizeLimit};
-ghost use Rattle.rules.specs.Tables.{isPut, staged, tokenOf};
+ghost use Rattle.rules.specs.Tables.{isPut, staged};
 ghost use Rattle.rules.specs.SessionCalls.{newPut, restaged, stagedNext, stageRule, stageToken, stagePut};
 ghost use Rattle.sessions.specs.Parts.{onSession};
+ghost use Rattle.sessions.specs.Rows.{rowIf, stageFound};
 use super::SessionOutcome;
 use super::answers::accept;
 use super::answers::refuse;
@@ -102,7 +103,7 @@ fn stage_fits(path: &[u8], size: u64) -> bool
 }
 
 // A session stages an object, where `k` is the row of the session's token, if it is there.
-fn stage_row(
+pub fn stage_row(
     s: Session,
     there: bool,
     k: Token,
@@ -110,7 +111,7 @@ fn stage_row(
     size: u64,
     hash: Hash,
 ) -> SessionOutcome
-    ensures { λ r. ⌜ ((t : Tables) (i : ℕ) → tokenOf (s .token) t ≡ cond there (hit i k) miss → onSession t r ≡ stageRule (now (path .entry)) size hash t s) ⌝ }
+    ensures { λ r. ⌜ ((t : Tables) → onSession t r ≡ stageFound (now (path .entry)) size hash t s (rowIf there k)) ⌝ }
 {
     if !stage_fits(path, size) {
         return refuse(s, BAD);
