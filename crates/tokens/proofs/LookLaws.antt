@@ -7,7 +7,7 @@ use borrow.Author.Tests.{not-true, not-false}
 use lib.ListN.{getD}
 use Rattle.lists.specs.declared.Found.{Found}
 use Rattle.lists.specs.declared.Found.the-variants.{At, Nothing}
-use Rattle.lists.specs.Lists.{hit, miss, find, firstAt}
+use Rattle.lists.specs.Lists.{hit, miss, firstAt}
 use Rattle.lists.specs.LoopLaws.{FindLoop, find-end}
 use Rattle.lists.specs.SearchLaws.{first-row, first-miss}
 use Rattle.rules.specs.declared.Answer.{Answer}
@@ -23,10 +23,12 @@ use Rattle.rules.specs.Numbers.{NO-TOKEN, NO-ENTRY}
 use Rattle.rules.specs.Outcome.{refusal, refused, successWith}
 use Rattle.rules.specs.Scope.{inWindow}
 use Rattle.rules.specs.Tables.{isToken, isEntry, tokenOf, entryOf}
-use Rattle.rules.specs.TokenCalls.{lookIn, lookEntry}
+use Rattle.rules.specs.TokenCalls.{lookIn, lookEntry, lookRule}
 use Rattle.rows.specs.Blank.{blankToken, blankEntry}
 use Rattle.rows.specs.EntryLaws.{entry-here}
 use Rattle.tokens.specs.Parts.{unchanged}
+use Rattle.tokens.specs.Rows.{rowIf, lookFound}
+use Rattle.tokens.specs.RowLaws.{look-by-row}
 
 -- the entry's row e, where it was found
 module _ (t : Tables) (j : ℕ) (found : Bool) (e : Entry) (r : Answer) where
@@ -66,14 +68,28 @@ module _ (t : Tables) (clock : ℕ) (es : List Entry) (c : t .clock ≡ clock) (
   unfolding entryOf
   look-past e q l g = g t i c (rw v (first-miss (isEntry (k .volume) path) es (sym (find-end (isEntry (k .volume) path) es 64 i h l))))
 
--- f is what the search for the token n said
-module _ (t : Tables) (path : List ℕ) (n : TokenNo) (f : Found) (e : f ≡ firstAt (isToken n) 0 (t .tokens)) where
-  pub look-none : (x : TablesOutcome) → f ≡ Nothing → x ≡ refused t NO-TOKEN → x ≡ lookIn t path (find (isToken n) (t .tokens))
+-- k is the row of the token, where it is there
+module _ (t : Tables) (path : List ℕ) (there : Bool) (k : Token) where
+  pub look-none : (x : TablesOutcome) → not there ≡ true → x ≡ refused t NO-TOKEN → x ≡ lookIn t path (rowIf there k)
   unfolding lookIn
-  look-none x w h = h ∙ sym (rw (first-miss (isToken n) (t .tokens) (sym e ∙ w)))
+  look-none x w h = h ∙ sym (rw (not-true there w))
 
-  pub look-at : (i : ℕ) (r : Answer) → f ≡ At i
-      → ((u : Tables) → u .clock ≡ t .clock → u .entries ≡ t .entries → unchanged u r ≡ lookIn u path (hit 0 (getD (t .tokens) i blankToken)))
-      → unchanged t r ≡ lookIn t path (find (isToken n) (t .tokens))
+  pub look-at : (clock : ℕ) (es : List Entry) (r : Answer) → not there ≡ false → t .clock ≡ clock → t .entries ≡ es
+      → ((u : Tables) → u .clock ≡ clock → u .entries ≡ es → unchanged u r ≡ lookIn u path (hit 0 k))
+      → unchanged t r ≡ lookIn t path (rowIf there k)
   unfolding lookIn
-  look-at i r w g = g t refl refl ∙ sym (rw (first-row (isToken n) (t .tokens) i (sym e ∙ w) blankToken))
+  look-at clock es r w c v g = g t c v ∙ sym (rw (not-false there w))
+
+-- f is what the search for the token n said
+module _ (t : Tables) (path : List ℕ) (n : TokenNo) (f : Found) (e : f ≡ firstAt (isToken n) 0 (t .tokens)) (r : Answer) where
+  pub look-missed : f ≡ Nothing → ((u : Tables) → u .clock ≡ t .clock → u .entries ≡ t .entries → unchanged u r ≡ lookFound u path miss)
+      → unchanged t r ≡ lookRule n path t
+  unfolding tokenOf
+  look-missed w g = g t refl refl ∙ look-by-row t n path false 0 blankToken (first-miss (isToken n) (t .tokens) (sym e ∙ w))
+
+  pub look-found : (i : ℕ) → f ≡ At i
+      → ((u : Tables) → u .clock ≡ t .clock → u .entries ≡ t .entries → unchanged u r ≡ lookFound u path (hit 0 (getD (t .tokens) i blankToken)))
+      → unchanged t r ≡ lookRule n path t
+  unfolding tokenOf
+  look-found i w g =
+      g t refl refl ∙ look-by-row t n path true i (getD (t .tokens) i blankToken) (first-row (isToken n) (t .tokens) i (sym e ∙ w) blankToken)

@@ -11,7 +11,9 @@ mod scope;
 
 pub use attenuate::attenuate_on;
 pub use grant::grant_on;
+pub use look::look_in;
 pub use look::look_on;
+pub use look::look_row;
 pub use revoke::revoke_on;
 use rules::Answer;
 use rules::Token;

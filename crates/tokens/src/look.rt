@@ -7,6 +7,7 @@ ghost use Rattle.rules.specs.declared.Tables.{Tables};
 ghost use Rattle.rules.specs.Tables.{entryOf};
 ghost use Rattle.rules.specs.TokenCalls.{lookRule, lookIn, lookEntry};
 ghost use Rattle.tokens.specs.Parts.{unchanged};
+ghost use Rattle.tokens.specs.Rows.{rowIf, lookFound};
 use lists::Found;
 use rows::can_read;
 use rows::find_token;
@@ -18,6 +19,7 @@ use rules::Tables;
 use rules::Token;
 use rules::TokenNo;
 use rules::fresh_entry;
+use rules::fresh_token;
 use rules::numbers::BAD;
 use rules::numbers::MODE;
 use rules::numbers::NO_ENTRY;
@@ -59,7 +61,7 @@ fn look_token(clock: u64, k: Token, found: bool, e: Entry, path: &[u8]) -> Answe
 }
 
 // In the table of the entries, from the token's row on. A row of another volume is not copied.
-fn look_in(clock: u64, k: Token, entries: [Entry; 64], path: &[u8]) -> Answer
+pub fn look_in(clock: u64, k: Token, entries: [Entry; 64], path: &[u8]) -> Answer
     ensures { λ r. ⌜ ((t : Tables) → t .clock ≡ clock → t .entries ≡ entries → unchanged t r ≡ lookIn t (now (path .entry)) (hit 0 k)) ⌝ }
 {
     let n = k.volume;
@@ -77,18 +79,29 @@ fn look_in(clock: u64, k: Token, entries: [Entry; 64], path: &[u8]) -> Answer
     look_token(clock, k, false, none, path)
 }
 
-// The size and the hash of the object at the path, by the token n.
-pub fn look_on(t: Tables, n: TokenNo, path: &[u8]) -> Answer
-    ensures { λ r. ⌜ unchanged t r ≡ lookRule n (now (path .entry)) t ⌝ }
+// The same as `look_on`, of the clock, a table of entries, and the token's row where there is one.
+pub fn look_row(clock: u64, entries: [Entry; 64], there: bool, k: Token, path: &[u8]) -> Answer
+    ensures { λ r. ⌜ ((t : Tables) → t .clock ≡ clock → t .entries ≡ entries → unchanged t r ≡ lookFound t (now (path .entry)) (rowIf there k)) ⌝ }
 {
     if !is_path(path) {
         return refusal(BAD);
     }
-    let rows = t.tokens;
-    let Found::At(i) = find_token(rows, n) else {
+    if !there {
         return refusal(NO_TOKEN);
+    }
+    look_in(clock, k, entries, path)
+}
+
+// The size and the hash of the object at the path, by the token n.
+pub fn look_on(t: Tables, n: TokenNo, path: &[u8]) -> Answer
+    ensures { λ r. ⌜ unchanged t r ≡ lookRule n (now (path .entry)) t ⌝ }
+{
+    let rows = t.tokens;
+    let entries = t.entries;
+    let Found::At(i) = find_token(rows, n) else {
+        let k = fresh_token();
+        return look_row(t.clock, entries, false, k, path);
     };
     let k = rows[i];
-    let entries = t.entries;
-    look_in(t.clock, k, entries, path)
+    look_row(t.clock, entries, true, k, path)
 }

@@ -1,0 +1,20 @@
+-- The rules of the calls on tokens, of a row that is handed to them in place of the token's number. Assumes nothing.
+use mathlib.Core.Bool.{Bool, not, cond}
+use mathlib.Core.List.{List}
+use Prim.Native.Nat.{ℕ}
+use Rattle.lists.specs.Lists.{Hit, hit, miss}
+use Rattle.text.specs.Text.{isPath}
+use Rattle.rules.specs.declared.Tables.{Tables}
+use Rattle.rules.specs.declared.TablesOutcome.{TablesOutcome}
+use Rattle.rules.specs.declared.Token.{Token}
+use Rattle.rules.specs.Numbers.{BAD}
+use Rattle.rules.specs.Outcome.{refused}
+use Rattle.rules.specs.TokenCalls.{lookIn}
+
+-- the row k, where there is one
+abbrev pub rowIf : Bool → Token → Hit Token
+rowIf there k = cond there (hit 0 k) miss
+
+-- look, by the row h
+unfoldable pub lookFound : Tables → List ℕ → Hit Token → TablesOutcome
+lookFound t path h = cond (not (isPath path)) (refused t BAD) (lookIn t path h)
