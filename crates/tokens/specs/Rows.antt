@@ -2,6 +2,7 @@
 use mathlib.Core.Bool.{Bool, not, cond}
 use mathlib.Core.List.{List}
 use Prim.Native.Nat.{ℕ}
+use lib.Dec.{eqb}
 use Rattle.lists.specs.Lists.{Hit, hit, miss}
 use Rattle.text.specs.Text.{isPath}
 use Rattle.rules.specs.declared.Tables.{Tables}
@@ -18,3 +19,7 @@ rowIf there k = cond there (hit 0 k) miss
 -- look, by the row h
 unfoldable pub lookFound : Tables → List ℕ → Hit Token → TablesOutcome
 lookFound t path h = cond (not (isPath path)) (refused t BAD) (lookIn t path h)
+
+-- a number is 0, which is that of a free row
+abbrev pub isZero : ℕ → Bool
+isZero n = eqb n 0
