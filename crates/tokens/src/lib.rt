@@ -11,6 +11,7 @@ mod scope;
 
 pub use attenuate::attenuate_on;
 pub use grant::grant_on;
+pub use grant::grant_row;
 pub use look::look_in;
 pub use look::look_on;
 pub use look::look_row;
