@@ -10,15 +10,22 @@ use Rattle.rules.specs.declared.Tables.{Tables}
 use Rattle.rules.specs.declared.Token.{Token}
 use Rattle.rules.specs.declared.TokenNo.{TokenNo}
 use Rattle.rules.specs.Tables.{freeToken, isToken, numbered, tokenOf}
-use Rattle.rules.specs.TokenCalls.{lookIn, lookRule}
+use Rattle.rules.specs.Scope.{ScopeArg, depth}
+use Rattle.rules.specs.TokenCalls.{attenuateIn, attenuateRule, lookIn, lookRule}
 use Rattle.rows.specs.Links.{tokenNumber}
-use Rattle.tokens.specs.Rows.{rowIf, lookFound, isZero}
+use Rattle.tokens.specs.Rows.{rowIf, lookFound, isZero, attenuateDeep, attenuateFound}
 
 pub look-by-row : (t : Tables) (n : TokenNo) (path : List ℕ) (there : Bool) (i : ℕ) (k : Token) → tokenOf n t ≡ cond there (hit i k) miss
     → lookFound t path (rowIf there k) ≡ lookRule n path t
 unfolding lookFound lookRule lookIn
 look-by-row t n path true i k e = rw e
 look-by-row t n path false i k e = rw e
+
+pub attenuate-by-row : (t : Tables) (n : TokenNo) (s : ScopeArg) (deep : ℕ) (there : Bool) (j : ℕ) (k : Token) → tokenOf n t ≡ cond there (hit j k) miss
+    → depth (t .tokens) k ≡ deep → attenuateFound t s deep (rowIf there k) ≡ attenuateRule n s t
+unfolding attenuateFound attenuateDeep attenuateRule attenuateIn
+attenuate-by-row t n s deep true j k e d = rw (e, d)
+attenuate-by-row t n s deep false j k e d = rw e
 
 -- the first free row, and the row of the number n, by the list of the numbers
 pub free-in-numbers : (ts : List Token) → firstAt isZero 0 (map tokenNumber ts) ≡ firstAt freeToken 0 ts

@@ -2,15 +2,17 @@
 use mathlib.Core.Bool.{Bool, not, cond}
 use mathlib.Core.List.{List}
 use Prim.Native.Nat.{ℕ}
-use lib.Dec.{eqb}
+use lib.Dec.{eqb, leb}
 use Rattle.lists.specs.Lists.{Hit, hit, miss}
 use Rattle.text.specs.Text.{isPath}
 use Rattle.rules.specs.declared.Tables.{Tables}
 use Rattle.rules.specs.declared.TablesOutcome.{TablesOutcome}
 use Rattle.rules.specs.declared.Token.{Token}
-use Rattle.rules.specs.Numbers.{BAD}
+use Rattle.rules.specs.Limits.{deepest}
+use Rattle.rules.specs.Numbers.{BAD, NO-TOKEN, WIDENS, DEEP}
 use Rattle.rules.specs.Outcome.{refused}
-use Rattle.rules.specs.TokenCalls.{lookIn}
+use Rattle.rules.specs.Scope.{ScopeArg, scopeFits, narrows, toScope}
+use Rattle.rules.specs.TokenCalls.{newToken, lookIn}
 
 -- the row k, where there is one
 abbrev pub rowIf : Bool → Token → Hit Token
@@ -23,3 +25,15 @@ lookFound t path h = cond (not (isPath path)) (refused t BAD) (lookIn t path h)
 -- a number is 0, which is that of a free row
 abbrev pub isZero : ℕ → Bool
 isZero n = eqb n 0
+
+-- attenuate, by the parent's row, whose chain has `deep` tokens: 4, 17, 18
+unfoldable pub attenuateDeep : Tables → ScopeArg → ℕ → Hit Token → TablesOutcome
+attenuateDeep t s deep miss = refused t NO-TOKEN
+attenuateDeep t s deep (hit i k) =
+    cond (not (narrows s (k .scope))) (refused t WIDENS)
+    (cond (leb deepest deep) (refused t DEEP)
+    (newToken t (k .volume) (k .no) (toScope s)))
+
+-- the same with its first check, 1
+unfoldable pub attenuateFound : Tables → ScopeArg → ℕ → Hit Token → TablesOutcome
+attenuateFound t s deep h = cond (not (scopeFits s)) (refused t BAD) (attenuateDeep t s deep h)

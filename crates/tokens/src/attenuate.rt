@@ -7,10 +7,10 @@ ghost use Rattle.text.specs.Text.{isPrefix};
 ghost use Rattle.rules.specs.declared.Tables.{Tables};
 ghost use Rattle.rules.specs.declared.Token.{Token};
 ghost use Rattle.rules.specs.declared.TokenNo.{TokenNo};
-ghost use Rattle.rules.specs.Scope.{depth};
 ghost use Rattle.rules.specs.Tables.{freeToken, tokenOf};
-ghost use Rattle.rules.specs.TokenCalls.{attenuateRule, attenuateIn};
+ghost use Rattle.rules.specs.TokenCalls.{attenuateRule};
 ghost use Rattle.tokens.specs.Parts.{onTokens, storedAt, scopeArg};
+ghost use Rattle.tokens.specs.Rows.{rowIf, attenuateDeep, attenuateFound};
 use super::NewToken;
 use super::TokensOutcome;
 use super::new_tokens::is_found;
@@ -48,7 +48,7 @@ fn attenuate_in(
     until: u64,
 ) -> NewToken
     requires { ⌜ isPrefix (now prefix) ≡ true ⌝ }
-    ensures { λ r. ⌜ ((t : Tables) (i : ℕ) (old : Token) → depth (t .tokens) k ≡ deep → t .«last_token» ≡ last → find freeToken (t .tokens) ≡ cond free (hit i old) miss → storedAt t i r ≡ attenuateIn t (scopeArg (now (prefix .entry)) mode cap from until) (hit 0 k)) ⌝ }
+    ensures { λ r. ⌜ ((t : Tables) (i : ℕ) (old : Token) → t .«last_token» ≡ last → find freeToken (t .tokens) ≡ cond free (hit i old) miss → storedAt t i r ≡ attenuateDeep t (scopeArg (now (prefix .entry)) mode cap from until) deep (hit 0 k)) ⌝ }
 {
     let parent = k.scope;
     if !narrows(prefix, mode, cap, from, until, parent) {
@@ -65,7 +65,7 @@ fn attenuate_in(
 
 // The same as `attenuate_on`, of the parent's row where there is one, its depth, the last token number given, and whether a row of the
 // tokens is free.
-fn attenuate_row(
+pub fn attenuate_row(
     there: bool,
     k: Token,
     deep: usize,
@@ -77,7 +77,7 @@ fn attenuate_row(
     from: u64,
     until: u64,
 ) -> NewToken
-    ensures { λ r. ⌜ ((t : Tables) (n : TokenNo) (i j : ℕ) (old : Token) → tokenOf n t ≡ cond there (hit j k) miss → depth (t .tokens) k ≡ deep → t .«last_token» ≡ last → find freeToken (t .tokens) ≡ cond free (hit i old) miss → storedAt t i r ≡ attenuateRule n (scopeArg (now (prefix .entry)) mode cap from until) t) ⌝ }
+    ensures { λ r. ⌜ ((t : Tables) (i : ℕ) (old : Token) → t .«last_token» ≡ last → find freeToken (t .tokens) ≡ cond free (hit i old) miss → storedAt t i r ≡ attenuateFound t (scopeArg (now (prefix .entry)) mode cap from until) deep (rowIf there k)) ⌝ }
 {
     if !scope_fits(prefix, cap, from, until) {
         return not_stored(BAD);

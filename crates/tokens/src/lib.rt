@@ -10,6 +10,7 @@ mod revoke;
 mod scope;
 
 pub use attenuate::attenuate_on;
+pub use attenuate::attenuate_row;
 pub use grant::grant_on;
 pub use grant::grant_row;
 pub use look::look_in;

@@ -1,6 +1,6 @@
 -- `attenuate::attenuate_row` meets its contract: its scope, then the row of its parent. Assumes nothing.
 use Rattle.rules.specs.Scope.{scopeFits}
-use Rattle.rules.specs.TokenCalls.{attenuateRule}
+use Rattle.tokens.specs.Rows.{attenuateFound}
 use Rattle.lists.specs.AnswerLaws.{checks}
 use Rattle.tokens.proofs.NewTokenLaws.{refused-new}
 use Rattle.tokens.proofs.AttenuateLaws.{attenuate-none, attenuate-at}
@@ -10,14 +10,14 @@ use Rattle.tokens.proofs.attenuate.attenuate_row.Statement.{statement}
 use Rattle.tokens.proofs.attenuate.attenuate_row.Tie as tie
 
 pub attenuate-row-spec : {M : Type 1} → statement M
-unfolding attenuateRule scopeFits
+unfolding attenuateFound scopeFits
 attenuate-row-spec =
     tie.close
     (tie.spec
     (λ c κs. search needs)
     (λ c κs. search needs)
-    (λ c t n i j old q d e f. search (checks, refused-new))  -- BAD
+    (λ c t i old e f. search (checks, refused-new))  -- BAD
     (λ c κs. search needs)
-    (λ c t n i j old q d e f. search (checks, attenuate-none, refused-new))  -- NO_TOKEN
+    (λ c t i old e f. search (checks, attenuate-none, refused-new))  -- NO_TOKEN
     (λ c κs. search fits-prefix)
-    (λ c t n i j old q d e f. search (checks, attenuate-at)))  -- by the parent
+    (λ c t i old e f. search (checks, attenuate-at)))  -- by the parent
