@@ -32,6 +32,8 @@ use Rattle.rows.specs.Links.{tokenNumber, tokenParent}
 use Rattle.tokens.specs.Dropped.{clearedIn, droppedFrom, noneDropped}
 use Rattle.tokens.specs.DroppedLaws.{length-in, row-by-bit, in-none, in-those}
 use Rattle.tokens.specs.Parts.{onTokens}
+use Rattle.tokens.specs.Rows.{rowIf}
+use Rattle.tokens.specs.RowLaws.{revoke-by-row}
 use Rattle.tokens.specs.declared.Dropped.{Dropped}
 use Rattle.tokens.specs.declared.TokensOutcome.{TokensOutcome}
 
@@ -42,19 +44,19 @@ drops-none a n e = rw e
 refused-drop : (t : Tables) (r : Dropped) (n : ℕ) → r ≡ noneDropped n → droppedFrom t r ≡ refused t n
 refused-drop t r n e = rw (e, in-none freshToken (t .tokens))
 
--- k is the row of the token n, where it is there
-module _ (t : Tables) (a : Account) (n : TokenNo) (i : ℕ) (there : Bool) (k : Token) (h : tokenOf n t ≡ cond there (hit i k) miss) where
-  pub revoke-missed : (r : Dropped) → not there ≡ true → r ≡ noneDropped NO-TOKEN → droppedFrom t r ≡ revokeIn t a (tokenOf n t)
+-- k is the row of the token, where it is there
+module _ (t : Tables) (a : Account) (there : Bool) (k : Token) where
+  pub revoke-missed : (r : Dropped) → not there ≡ true → r ≡ noneDropped NO-TOKEN → droppedFrom t r ≡ revokeIn t a (rowIf there k)
   unfolding revokeIn
-  revoke-missed r q e = refused-drop t r NO-TOKEN e ∙ sym (rw (h, not-true there q))
+  revoke-missed r q e = refused-drop t r NO-TOKEN e ∙ sym (rw (not-true there q))
 
   -- f is what the search of the volumes said
   module _ (q : not there ≡ false) (vs : List Volume) (v : t .volumes ≡ vs) (f : Found) (e : f ≡ firstAt (isVolume (k .volume)) 0 vs) where
-    by-owner : (x : TablesOutcome) → x ≡ revokeOwner t a k (volumeOf (k .volume) t) → x ≡ revokeIn t a (tokenOf n t)
+    by-owner : (x : TablesOutcome) → x ≡ revokeOwner t a k (volumeOf (k .volume) t) → x ≡ revokeIn t a (rowIf there k)
     unfolding revokeIn
-    by-owner x w = w ∙ sym (rw (h, not-false there q))
+    by-owner x w = w ∙ sym (rw (not-false there q))
 
-    pub owner-none : (r : Dropped) → f ≡ Nothing → r ≡ noneDropped NOT-OWNER → droppedFrom t r ≡ revokeIn t a (tokenOf n t)
+    pub owner-none : (r : Dropped) → f ≡ Nothing → r ≡ noneDropped NOT-OWNER → droppedFrom t r ≡ revokeIn t a (rowIf there k)
     unfolding revokeOwner volumeOf
     owner-none r w g =
         let m : volumeOf (k .volume) t ≡ miss = rw v (first-miss (isVolume (k .volume)) vs (sym e ∙ w)) in
@@ -66,14 +68,14 @@ module _ (t : Tables) (a : Account) (n : TokenNo) (i : ℕ) (there : Bool) (k : 
       unfolding volumeOf
       found = rw v (first-row (isVolume (k .volume)) vs j (sym e ∙ w) blankVolume)
 
-      pub owner-other : (r : Dropped) → not b ≡ true → r ≡ noneDropped NOT-OWNER → droppedFrom t r ≡ revokeIn t a (tokenOf n t)
+      pub owner-other : (r : Dropped) → not b ≡ true → r ≡ noneDropped NOT-OWNER → droppedFrom t r ≡ revokeIn t a (rowIf there k)
       unfolding revokeOwner
       owner-other r u g = by-owner (droppedFrom t r) (refused-drop t r NOT-OWNER g ∙ sym (rw (found, ← o, not-true b u)))
 
       pub owner-drops : (x : Answer) (s : ℕ) (ns ps : List ℕ) → not b ≡ false → x ≡ success 0 → length (t .tokens) ≡ 32
           → ns ≡ map tokenNumber (t .tokens) → ps ≡ map tokenParent (t .tokens)
           → ((ts : List Token) → length ts ≡ 32 → ns ≡ map tokenNumber ts → ps ≡ map tokenParent ts → s ≡ bitSet (descends ts (k .no)) ts)
-          → droppedFrom t (record { answer = x; set = s }) ≡ revokeIn t a (tokenOf n t)
+          → droppedFrom t (record { answer = x; set = s }) ≡ revokeIn t a (rowIf there k)
       unfolding revokeOwner
       owner-drops x s ns ps u y m c d g =
           by-owner (droppedFrom t (record { answer = x; set = s }))
@@ -83,11 +85,11 @@ module _ (t : Tables) (a : Account) (n : TokenNo) (i : ℕ) (there : Bool) (k : 
 pub revoke-told : (t : Tables) (a : Account) (n : TokenNo) (i last : ℕ) (k : Token) (vs : List Volume) (rows out : List Token) (ns ps : List ℕ) (x : Answer) (s : ℕ)
     → out ≡ clearedIn s freshToken rows → length rows ≡ 32 → ns ≡ map tokenNumber rows → ps ≡ map tokenParent rows
     → t .volumes ≡ vs → t .tokens ≡ rows → t .«last_token» ≡ last → tokenOf n t ≡ hit i k
-    → ((u : Tables) (m : TokenNo) (j : ℕ) → length (u .tokens) ≡ 32 → u .volumes ≡ vs → ns ≡ map tokenNumber (u .tokens) → ps ≡ map tokenParent (u .tokens) → tokenOf m u ≡ cond true (hit j k) miss
-    → droppedFrom u (record { answer = x; set = s }) ≡ revokeRule a m u)
+    → ((u : Tables) → length (u .tokens) ≡ 32 → u .volumes ≡ vs → ns ≡ map tokenNumber (u .tokens) → ps ≡ map tokenParent (u .tokens)
+    → droppedFrom u (record { answer = x; set = s }) ≡ revokeIn u a (hit 0 k))
     → onTokens t (record { answer = x; tokens = out; last = last }) ≡ revokeRule a n t
 revoke-told t a n i last k vs rows out ns ps x s c m d e v q l h g =
-    rw (c, ← q, ← l) (g t n i (rw q m) v (rw q d) (rw q e) h)
+    rw (c, ← q, ← l) (g t (rw q m) v (rw q d) (rw q e) ∙ revoke-by-row t a n true i k h)
 
 -- f is what the search for the token n said
 module _ (t : Tables) (a : Account) (n : TokenNo) (f : Found) (e : f ≡ firstAt (isToken n) 0 (t .tokens)) (r : TokensOutcome) where

@@ -6,12 +6,13 @@ use mathlib.Core.List.{List, map}
 use Prim.Native.Nat.{ℕ}
 use Rattle.lists.specs.Lists.{hit, miss, firstAt}
 use Rattle.lists.specs.RowLaws.{first-map}
+use Rattle.rules.specs.declared.Account.{Account}
 use Rattle.rules.specs.declared.Tables.{Tables}
 use Rattle.rules.specs.declared.Token.{Token}
 use Rattle.rules.specs.declared.TokenNo.{TokenNo}
 use Rattle.rules.specs.Tables.{freeToken, isToken, numbered, tokenOf}
 use Rattle.rules.specs.Scope.{ScopeArg, depth}
-use Rattle.rules.specs.TokenCalls.{attenuateIn, attenuateRule, lookIn, lookRule}
+use Rattle.rules.specs.TokenCalls.{attenuateIn, attenuateRule, revokeIn, revokeRule, lookIn, lookRule}
 use Rattle.rows.specs.Links.{tokenNumber}
 use Rattle.tokens.specs.Rows.{rowIf, lookFound, isZero, attenuateDeep, attenuateFound}
 
@@ -26,6 +27,12 @@ pub attenuate-by-row : (t : Tables) (n : TokenNo) (s : ScopeArg) (deep : ℕ) (t
 unfolding attenuateFound attenuateDeep attenuateRule attenuateIn
 attenuate-by-row t n s deep true j k e d = rw (e, d)
 attenuate-by-row t n s deep false j k e d = rw e
+
+pub revoke-by-row : (t : Tables) (a : Account) (n : TokenNo) (there : Bool) (i : ℕ) (k : Token) → tokenOf n t ≡ cond there (hit i k) miss
+    → revokeIn t a (rowIf there k) ≡ revokeRule a n t
+unfolding revokeIn revokeRule
+revoke-by-row t a n true i k e = rw e
+revoke-by-row t a n false i k e = rw e
 
 -- the first free row, and the row of the number n, by the list of the numbers
 pub free-in-numbers : (ts : List Token) → firstAt isZero 0 (map tokenNumber ts) ≡ firstAt freeToken 0 ts

@@ -19,7 +19,9 @@ pub use look::look_row;
 pub use new_tokens::free_in;
 pub use new_tokens::is_found;
 pub use new_tokens::place_of;
+pub use revoke::clear_rows;
 pub use revoke::revoke_on;
+pub use revoke::revoke_row;
 use rules::Answer;
 use rules::Token;
 

@@ -1,21 +1,21 @@
 // Revoke: the owner of a volume drops a token and all its descendants.
 ghost use mathlib.Core.Path.{_≡_};
-ghost use mathlib.Core.Bool.{cond};
 ghost use mathlib.Core.List.{List, map};
 ghost use Prim.Native.Nat.{ℕ};
 ghost use lib.ListN.{length};
-ghost use Rattle.lists.specs.Lists.{hit, miss, bitSet};
+ghost use Rattle.lists.specs.Lists.{hit, bitSet};
 ghost use Rattle.rules.specs.declared.Tables.{Tables};
 ghost use Rattle.rules.specs.declared.Token.{Token};
 ghost use Rattle.rules.specs.declared.TokenNo.{TokenNo};
 ghost use Rattle.rules.specs.Fresh.{freshToken};
 ghost use Rattle.rules.specs.Tables.{tokenOf};
 ghost use Rattle.rules.specs.Scope.{descends};
-ghost use Rattle.rules.specs.TokenCalls.{revokeRule};
+ghost use Rattle.rules.specs.TokenCalls.{revokeIn, revokeRule};
 ghost use Rattle.rows.specs.Links.{tokenNumber, tokenParent};
 ghost use Rattle.tokens.specs.Descends.{inChain, descendsIn};
 ghost use Rattle.tokens.specs.Dropped.{clearedIn, droppedFrom, noneDropped};
 ghost use Rattle.tokens.specs.Parts.{onTokens};
+ghost use Rattle.tokens.specs.Rows.{rowIf};
 use super::Dropped;
 use super::TokensOutcome;
 use super::answers::refuse;
@@ -95,7 +95,7 @@ fn none_dropped(n: u32) -> Dropped
 
 // The same as `revoke_on`, of a table of volumes, the token's row where there is one, and the lists of the tokens' numbers and of their
 // parents' numbers.
-fn revoke_row(
+pub fn revoke_row(
     volumes: [Volume; 8],
     there: bool,
     k: Token,
@@ -103,7 +103,7 @@ fn revoke_row(
     parents: &[u64; 32],
     a: Account,
 ) -> Dropped
-    ensures { λ r. ⌜ ((t : Tables) (n : TokenNo) (i : ℕ) → length (t .tokens) ≡ 32 → t .volumes ≡ volumes → now (numbers .entry) ≡ map tokenNumber (t .tokens) → now (parents .entry) ≡ map tokenParent (t .tokens) → tokenOf n t ≡ cond there (hit i k) miss → droppedFrom t r ≡ revokeRule a n t) ⌝ }
+    ensures { λ r. ⌜ ((t : Tables) → length (t .tokens) ≡ 32 → t .volumes ≡ volumes → now (numbers .entry) ≡ map tokenNumber (t .tokens) → now (parents .entry) ≡ map tokenParent (t .tokens) → droppedFrom t r ≡ revokeIn t a (rowIf there k)) ⌝ }
 {
     if !there {
         return none_dropped(NO_TOKEN);
@@ -123,7 +123,7 @@ fn revoke_row(
 }
 
 // The table with the rows of the set as fresh ones.
-fn clear_set(rows: [Token; 32], set: u32) -> [Token; 32]
+pub fn clear_rows(rows: [Token; 32], set: u32) -> [Token; 32]
     ensures { λ r. ⌜ r ≡ clearedIn set freshToken rows ⌝ }
 {
     let mut next = rows;
@@ -151,7 +151,7 @@ fn revoke_at(
     let parents = token_parents(rows);
     let o = revoke_row(volumes, true, k, &numbers, &parents, a);
     let answer = o.answer;
-    let tokens = clear_set(rows, o.set);
+    let tokens = clear_rows(rows, o.set);
     TokensOutcome {
         answer,
         tokens,

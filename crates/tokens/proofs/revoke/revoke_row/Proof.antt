@@ -1,5 +1,4 @@
 -- `revoke::revoke_row` meets its contract: the row of its token, the row of its volume, then the owner. Assumes nothing.
-use Rattle.rules.specs.TokenCalls.{revokeRule}
 use Rattle.lists.specs.AnswerLaws.{in-table}
 use Rattle.tokens.proofs.RevokeLaws.{revoke-missed, owner-none, owner-other, owner-drops}
 use borrow.Author.Needs.{needs}
@@ -7,22 +6,21 @@ use Rattle.tokens.proofs.revoke.revoke_row.Statement.{statement}
 use Rattle.tokens.proofs.revoke.revoke_row.Tie as tie
 
 pub revoke-row-spec : {M : Type 1} → statement M
-unfolding revokeRule
 revoke-row-spec =
     tie.close
     (tie.spec
     (λ c κs. search needs)
-    (λ c t n i m v e f h. search revoke-missed)  -- NO_TOKEN
+    (λ c t m v e f. search revoke-missed)  -- NO_TOKEN
     (λ c κs. search needs)
     (λ c. search needs)
     (λ c. search needs)
     (λ c κs. search needs)
-    (λ c t n i m v e f h. search owner-none)  -- NOT_OWNER
+    (λ c t m v e f. search owner-none)  -- NOT_OWNER
     (λ c. search in-table)
     (λ c. search in-table)
     (λ c κs. search needs)
     (λ c κs. search needs)
-    (λ c t n i m v e f h. search owner-other)  -- NOT_OWNER
+    (λ c t m v e f. search owner-other)  -- NOT_OWNER
     (λ c κs. search needs)
     (λ c κs. search needs)
-    (λ c t n i m v e f h. search owner-drops))  -- success
+    (λ c t m v e f. search owner-drops))  -- success

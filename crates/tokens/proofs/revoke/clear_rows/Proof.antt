@@ -1,12 +1,12 @@
--- `revoke::clear_set` meets its contract: the rows of the set, one after another. Assumes nothing.
+-- `revoke::clear_rows` meets its contract: the rows of the set, one after another. Assumes nothing.
 use Prim.Native.Nat.{_-_}
 use mathlib.Core.Logic.{⊎-elim}
 use Rattle.tokens.proofs.RevokeLaws.{ClearSetLoop, clears, clear-row, keep-row}
-use Rattle.tokens.proofs.revoke.clear_set.Statement.{statement}
-use Rattle.tokens.proofs.revoke.clear_set.Tie as tie
+use Rattle.tokens.proofs.revoke.clear_rows.Statement.{statement}
+use Rattle.tokens.proofs.revoke.clear_rows.Tie as tie
 
-pub clear-set-spec : {M : Type 1} → statement M
-clear-set-spec =
+pub clear-rows-spec : {M : Type 1} → statement M
+clear-rows-spec =
     tie.close
     (tie.spec
     (λ set next₀ i₀ next i. ClearSetLoop set next₀ i next)
