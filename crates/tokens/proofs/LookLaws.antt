@@ -6,7 +6,6 @@ use Prim.Native.Nat.{ℕ, _<_, _≤_}
 use borrow.Author.Tests.{not-true, not-false}
 use lib.ListN.{getD}
 use Rattle.lists.specs.declared.Found.{Found}
-use Rattle.lists.specs.declared.Found.the-variants.{At, Nothing}
 use Rattle.lists.specs.Lists.{hit, miss, firstAt}
 use Rattle.lists.specs.LoopLaws.{FindLoop, find-end}
 use Rattle.lists.specs.SearchLaws.{first-row, first-miss}
@@ -26,9 +25,10 @@ use Rattle.rules.specs.Tables.{isToken, isEntry, tokenOf, entryOf}
 use Rattle.rules.specs.TokenCalls.{lookIn, lookEntry, lookRule}
 use Rattle.rows.specs.Blank.{blankToken, blankEntry}
 use Rattle.rows.specs.EntryLaws.{entry-here}
-use Rattle.tokens.specs.Parts.{unchanged}
+use Rattle.tokens.specs.Parts.{unchanged, isFound, placeOf}
 use Rattle.tokens.specs.Rows.{rowIf, lookFound}
 use Rattle.tokens.specs.RowLaws.{look-by-row}
+use Rattle.tokens.proofs.NewTokenLaws.{found-row}
 
 -- the entry's row e, where it was found
 module _ (t : Tables) (j : ℕ) (found : Bool) (e : Entry) (r : Answer) where
@@ -81,15 +81,11 @@ module _ (t : Tables) (path : List ℕ) (there : Bool) (k : Token) where
   look-at clock es r w c v g = g t c v ∙ sym (rw (not-false there w))
 
 -- f is what the search for the token n said
-module _ (t : Tables) (path : List ℕ) (n : TokenNo) (f : Found) (e : f ≡ firstAt (isToken n) 0 (t .tokens)) (r : Answer) where
-  pub look-missed : f ≡ Nothing → ((u : Tables) → u .clock ≡ t .clock → u .entries ≡ t .entries → unchanged u r ≡ lookFound u path miss)
-      → unchanged t r ≡ lookRule n path t
-  unfolding tokenOf
-  look-missed w g = g t refl refl ∙ look-by-row t n path false 0 blankToken (first-miss (isToken n) (t .tokens) (sym e ∙ w))
-
-  pub look-found : (i : ℕ) → f ≡ At i
-      → ((u : Tables) → u .clock ≡ t .clock → u .entries ≡ t .entries → unchanged u r ≡ lookFound u path (hit 0 (getD (t .tokens) i blankToken)))
-      → unchanged t r ≡ lookRule n path t
-  unfolding tokenOf
-  look-found i w g =
-      g t refl refl ∙ look-by-row t n path true i (getD (t .tokens) i blankToken) (first-row (isToken n) (t .tokens) i (sym e ∙ w) blankToken)
+pub look-told : (t : Tables) (path : List ℕ) (n : TokenNo) (f : Found) (there : Bool) (i : ℕ) (r : Answer) → f ≡ firstAt (isToken n) 0 (t .tokens)
+    → there ≡ isFound f → i ≡ placeOf f
+    → ((u : Tables) → u .clock ≡ t .clock → u .entries ≡ t .entries → unchanged u r ≡ lookFound u path (rowIf there (getD (t .tokens) i blankToken)))
+    → unchanged t r ≡ lookRule n path t
+unfolding tokenOf
+look-told t path n f there i r e p q g =
+    g t refl refl
+    ∙ look-by-row t n path there i (getD (t .tokens) i blankToken) (rw (p, q) (found-row (isToken n) (t .tokens) blankToken f e))

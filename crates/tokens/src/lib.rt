@@ -1,6 +1,7 @@
-// The work of the calls on tokens: grant, attenuate, revoke and look. Each reads the tables and gives back what it
-// changes of them: the token table and the last number given. Look changes nothing and gives back its answer. Within
-// the crate a call takes the rows and tables that it reads, and gives back the new row, the set of the rows that go, or the answer.
+// The work of the calls on tokens: grant, attenuate, revoke and look. Each has two forms. `grant_on` and the like read the tables
+// and give back what they change of them: the token table and the last number given. `look_on` changes nothing and gives back
+// its answer. `grant_row` and the like take only what they read of the tables, and in place of a token's number its row, or that there
+// is none. They give back the new row, the set of the rows that go, or the answer. Every public function answers for every input.
 mod answers;
 mod attenuate;
 mod grant;

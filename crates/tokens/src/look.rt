@@ -8,7 +8,8 @@ ghost use Rattle.rules.specs.Tables.{entryOf};
 ghost use Rattle.rules.specs.TokenCalls.{lookRule, lookIn, lookEntry};
 ghost use Rattle.tokens.specs.Parts.{unchanged};
 ghost use Rattle.tokens.specs.Rows.{rowIf, lookFound};
-use lists::Found;
+use super::new_tokens::is_found;
+use super::new_tokens::place_of;
 use rows::can_read;
 use rows::find_token;
 use rows::in_window;
@@ -19,7 +20,6 @@ use rules::Tables;
 use rules::Token;
 use rules::TokenNo;
 use rules::fresh_entry;
-use rules::fresh_token;
 use rules::numbers::BAD;
 use rules::numbers::MODE;
 use rules::numbers::NO_ENTRY;
@@ -97,11 +97,10 @@ pub fn look_on(t: Tables, n: TokenNo, path: &[u8]) -> Answer
     ensures { λ r. ⌜ unchanged t r ≡ lookRule n (now (path .entry)) t ⌝ }
 {
     let rows = t.tokens;
-    let entries = t.entries;
-    let Found::At(i) = find_token(rows, n) else {
-        let k = fresh_token();
-        return look_row(t.clock, entries, false, k, path);
-    };
+    let f = find_token(rows, n);
+    let there = is_found(f);
+    let i = place_of(f);
     let k = rows[i];
-    look_row(t.clock, entries, true, k, path)
+    let entries = t.entries;
+    look_row(t.clock, entries, there, k, path)
 }

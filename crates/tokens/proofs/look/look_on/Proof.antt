@@ -1,6 +1,7 @@
 -- `look::look_on` meets its contract: the row of its token, where there is one. Assumes nothing.
 use Rattle.lists.specs.AnswerLaws.{in-table}
-use Rattle.tokens.proofs.LookLaws.{look-missed, look-found}
+use Rattle.tokens.proofs.LookLaws.{look-told}
+use Rattle.tokens.proofs.NewTokenLaws.{place-in, place-fits}
 use borrow.Author.Needs.{needs}
 use Rattle.tokens.proofs.look.look_on.Statement.{statement}
 use Rattle.tokens.proofs.look.look_on.Tie as tie
@@ -10,12 +11,9 @@ look-on-spec =
     tie.close
     (tie.spec
     (λ c κs. search needs)
-    (λ c. search needs)
-    (λ c. search needs)
     (λ c κs. search needs)
     (λ c κs. search needs)
-    (λ c. search look-missed)  -- no such token
-    (λ c. search in-table)
-    (λ c. search in-table)
+    (λ c. search (place-fits, in-table))
+    (λ c. search (place-in, in-table))
     (λ c κs. search needs)
-    (λ c. search look-found))  -- by the token
+    (λ c. search look-told))
