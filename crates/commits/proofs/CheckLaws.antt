@@ -31,7 +31,8 @@ use Rattle.commits.specs.declared.CommitOutcome.{CommitOutcome}
 use Rattle.commits.specs.Parts.{onCommit}
 use Rattle.commits.specs.Within.{entryWithin, volumeWithin, tokenWithin, relayWithin, sessionWithin, inLimits, commitWithin}
 use Rattle.commits.specs.Stored.{placedBy, StoredIf}
-use Rattle.commits.specs.Checks.{tokenFault, limitsFault, rowsFault, faultAt, faultBy, rowIf, canCheck, rowsNumber, Ready, PlacedIf, RowsIf, Surveyed}
+use Rattle.rows.specs.Links.{rowIf}
+use Rattle.commits.specs.Checks.{tokenFault, limitsFault, rowsFault, faultAt, faultBy, canCheck, rowsNumber, Ready, PlacedIf, RowsIf, Surveyed}
 use Rattle.commits.specs.CommitSteps.{kept-ok, relays-ok, volumes-ok, session-ok, puts-ok, count-ok, shards-found, parts-stopped, parts-stored}
 
 -- in the function of all checks: r said that their sums fit

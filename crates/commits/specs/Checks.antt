@@ -66,10 +66,6 @@ unfoldable pub faultAt : ℕ → ℕ → List Token → List Relay → Session �
 faultAt clock rate tokens relays s kept rows v miss = NO-TOKEN
 faultAt clock rate tokens relays s kept rows v (hit j k) = rowsFault clock rate tokens relays s kept rows v k
 
--- the row of a token, where `there` says whether there is one
-abbrev pub rowIf : Bool → Token → Hit Token
-rowIf there k = cond there (hit 0 k) miss
-
 -- 2, where h is the token's row
 unfoldable pub faultBy : ℕ → ℕ → List Token → List Relay → Session → ℕ → ℕ → Hit Token → Hit Volume → ℕ
 faultBy clock rate tokens relays s kept rows h miss = NO-VOLUME

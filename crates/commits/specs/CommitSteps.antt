@@ -36,7 +36,8 @@ use Rattle.commits.specs.declared.CommitOutcome.{CommitOutcome}
 use Rattle.commits.specs.Parts.{onCommit}
 use Rattle.commits.specs.Within.{volumeWithin, entryWithin, tokenWithin, relayWithin, putWithin, sessionWithin, inLimits, commitWithin}
 use Rattle.commits.specs.Stored.{keptBytes, StoredAs, canStore, StoredIf}
-use Rattle.commits.specs.Checks.{tokenFault, limitsFault, orElse, placeFault, placingOf, rowsFault, faultAt, faultBy, rowIf, canCheck, rowsNumber, RowsIf, Surveyed}
+use Rattle.rows.specs.Links.{rowIf}
+use Rattle.commits.specs.Checks.{tokenFault, limitsFault, orElse, placeFault, placingOf, rowsFault, faultAt, faultBy, canCheck, rowsNumber, RowsIf, Surveyed}
 use Rattle.commits.specs.CommitSums.{size-passes, rent-passes, staged-small}
 
 -- the answer by a number: the refusal with it, or the rest where it is 0

@@ -31,7 +31,8 @@ use Rattle.rules.specs.SessionCalls.{openRule, openToken, openVolume, newPut, s
 use Rattle.rows.specs.Blank.{blankVolume, blankToken, blankPut}
 use Rattle.sessions.specs.declared.SessionOutcome.{SessionOutcome}
 use Rattle.sessions.specs.Parts.{onSession}
-use Rattle.sessions.specs.Rows.{rowIf, openFound, stageFound}
+use Rattle.rows.specs.Links.{rowIf}
+use Rattle.sessions.specs.Rows.{openFound, stageFound}
 use Rattle.sessions.specs.RowLaws.{open-by-row, stage-by-row}
 
 module _ (t : Tables) (r : SessionOutcome) where

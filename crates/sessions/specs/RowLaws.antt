@@ -12,7 +12,8 @@ use Rattle.rules.specs.declared.Session.{Session}
 use Rattle.rules.specs.declared.Tables.{Tables}
 use Rattle.rules.specs.Tables.{tokenOf}
 use Rattle.rules.specs.SessionCalls.{openRule, openToken, stageRule, stageToken}
-use Rattle.sessions.specs.Rows.{rowIf, openFound, stageFound}
+use Rattle.rows.specs.Links.{rowIf}
+use Rattle.sessions.specs.Rows.{openFound, stageFound}
 
 -- open, where the row that the tables have for the number n is at hand
 pub open-by-row : (t : Tables) (s : Session) (n : TokenNo) (there : Bool) (i : ℕ) (k : Token) → tokenOf n t ≡ cond there (hit i k) miss

@@ -17,10 +17,6 @@ use Rattle.rules.specs.Tables.{busy}
 use Rattle.rules.specs.Outcome.{slotRefused}
 use Rattle.rules.specs.SessionCalls.{openToken, stageToken}
 
--- the row k if it is there, else none; no rule of a session reads the index
-abbrev pub rowIf : Bool → Token → Hit Token
-rowIf there k = cond there (hit 0 k) miss
-
 -- open, where h is the token's row, if there is one
 unfoldable pub openFound : Tables → Session → Hit Token → SlotOutcome
 openFound t s h = cond (busy s) (slotRefused t s SESSION) (openToken t s h)

@@ -21,7 +21,8 @@ use Rattle.rules.specs.Tables.{isToken, freeToken, tokenOf}
 use Rattle.rules.specs.TokenCalls.{attenuateRule}
 use Rattle.rows.specs.Blank.{blankToken}
 use Rattle.tokens.specs.Parts.{onTokens, storedAt, storedIn, isFound, placeOf}
-use Rattle.tokens.specs.Rows.{rowIf, attenuateDeep, attenuateFound}
+use Rattle.rows.specs.Links.{rowIf}
+use Rattle.tokens.specs.Rows.{attenuateDeep, attenuateFound}
 use Rattle.tokens.specs.RowLaws.{attenuate-by-row}
 use Rattle.tokens.specs.declared.NewToken.{NewToken}
 use Rattle.tokens.specs.declared.TokensOutcome.{TokensOutcome}

@@ -26,7 +26,8 @@ use Rattle.rules.specs.TokenCalls.{lookIn, lookEntry, lookRule}
 use Rattle.rows.specs.Blank.{blankToken, blankEntry}
 use Rattle.rows.specs.EntryLaws.{entry-here}
 use Rattle.tokens.specs.Parts.{unchanged, isFound, placeOf}
-use Rattle.tokens.specs.Rows.{rowIf, lookFound}
+use Rattle.rows.specs.Links.{rowIf}
+use Rattle.tokens.specs.Rows.{lookFound}
 use Rattle.tokens.specs.RowLaws.{look-by-row}
 use Rattle.tokens.proofs.NewTokenLaws.{found-row}
 

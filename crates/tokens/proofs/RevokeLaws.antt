@@ -28,11 +28,10 @@ use Rattle.rules.specs.Scope.{descends}
 use Rattle.rules.specs.Tables.{isVolume, isToken, ownedBy, volumeOf, tokenOf, withTokens}
 use Rattle.rules.specs.TokenCalls.{revokeIn, revokeOwner, revokeRule}
 use Rattle.rows.specs.Blank.{blankVolume, blankToken}
-use Rattle.rows.specs.Links.{tokenNumber, tokenParent}
+use Rattle.rows.specs.Links.{tokenNumber, tokenParent, rowIf}
 use Rattle.tokens.specs.Dropped.{clearedIn, droppedFrom, noneDropped}
 use Rattle.tokens.specs.DroppedLaws.{length-in, row-by-bit, in-none, in-those}
 use Rattle.tokens.specs.Parts.{onTokens}
-use Rattle.tokens.specs.Rows.{rowIf}
 use Rattle.tokens.specs.RowLaws.{revoke-by-row}
 use Rattle.tokens.specs.declared.Dropped.{Dropped}
 use Rattle.tokens.specs.declared.TokensOutcome.{TokensOutcome}

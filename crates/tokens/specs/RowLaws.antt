@@ -13,8 +13,8 @@ use Rattle.rules.specs.declared.TokenNo.{TokenNo}
 use Rattle.rules.specs.Tables.{freeToken, isToken, numbered, tokenOf}
 use Rattle.rules.specs.Scope.{ScopeArg, depth}
 use Rattle.rules.specs.TokenCalls.{attenuateIn, attenuateRule, revokeIn, revokeRule, lookIn, lookRule}
-use Rattle.rows.specs.Links.{tokenNumber}
-use Rattle.tokens.specs.Rows.{rowIf, lookFound, isZero, attenuateDeep, attenuateFound}
+use Rattle.rows.specs.Links.{tokenNumber, rowIf}
+use Rattle.tokens.specs.Rows.{lookFound, isZero, attenuateDeep, attenuateFound}
 
 pub look-by-row : (t : Tables) (n : TokenNo) (path : List ℕ) (there : Bool) (i : ℕ) (k : Token) → tokenOf n t ≡ cond there (hit i k) miss
     → lookFound t path (rowIf there k) ≡ lookRule n path t

@@ -14,10 +14,6 @@ use Rattle.rules.specs.Outcome.{refused}
 use Rattle.rules.specs.Scope.{ScopeArg, scopeFits, narrows, toScope}
 use Rattle.rules.specs.TokenCalls.{newToken, lookIn}
 
--- the row k, where there is one
-abbrev pub rowIf : Bool → Token → Hit Token
-rowIf there k = cond there (hit 0 k) miss
-
 -- look, by the row h
 unfoldable pub lookFound : Tables → List ℕ → Hit Token → TablesOutcome
 lookFound t path h = cond (not (isPath path)) (refused t BAD) (lookIn t path h)
