@@ -3,6 +3,8 @@ ghost use mathlib.Core.Path.{_≡_};
 ghost use Rattle.rules.specs.Outcome.{refused, accepted};
 ghost use Rattle.rules.specs.Tables.{withRelays, withLastRelay};
 ghost use Rattle.relays.specs.Parts.{onRelays};
+ghost use Rattle.relays.specs.Rows.{keptRow};
+use super::RelayChange;
 use super::RelaysOutcome;
 use rules::Relay;
 use rules::Tables;
@@ -28,5 +30,20 @@ pub(crate) fn accept(t: Tables, v: u64, relays: [Relay; 32], last: u32) -> Relay
         answer,
         relays,
         last,
+    }
+}
+
+// A refusal changes no row.
+pub(crate) fn keep_row(n: u32) -> RelayChange
+    ensures { λ r. ⌜ r ≡ keptRow n ⌝ }
+{
+    let answer = rules::refusal(n);
+    let row = rules::fresh_relay();
+    RelayChange {
+        answer,
+        changed: false,
+        at: 0,
+        row,
+        last: 0,
     }
 }

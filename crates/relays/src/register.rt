@@ -4,8 +4,11 @@ ghost use Prim.Native.Nat.{_<_};
 ghost use Rattle.lists.specs.Lists.{hit};
 ghost use Rattle.rules.specs.RelayCalls.{registerRule, registerIn};
 ghost use Rattle.relays.specs.Parts.{onRelays};
+ghost use Rattle.relays.specs.Rows.{registerRow};
+use super::RelayChange;
 use super::RelaysOutcome;
 use super::answers::accept;
+use super::answers::keep_row;
 use super::answers::refuse;
 use lists::Found;
 use rows::free_relay;
@@ -49,4 +52,35 @@ pub fn register_on(t: Tables, capacity: u64) -> RelaysOutcome
         beat: t.clock,
     };
     store_relay(t, i, row)
+}
+
+// The same as `register_on`, of the clock, a relay table, and the last relay number given.
+pub fn register_row(clock: u64, rows: [Relay; 32], last: u32, capacity: u64) -> RelayChange
+    ensures { λ r. ⌜ r ≡ registerRow clock rows last capacity ⌝ }
+{
+    if 4398046511104 < capacity {
+        return keep_row(BAD);
+    }
+    if 65535 <= last {
+        return keep_row(SPENT);
+    }
+    let Found::At(i) = free_relay(rows) else {
+        return keep_row(ROOM);
+    };
+    let no = last + 1;
+    let row = Relay {
+        no: RelayNo(no),
+        capacity,
+        used: 0,
+        held: 0,
+        beat: clock,
+    };
+    let answer = rules::success(no as u64);
+    RelayChange {
+        answer,
+        changed: true,
+        at: i,
+        row,
+        last: no,
+    }
 }
