@@ -2,8 +2,10 @@
 use mathlib.Core.Path.{_≡_}
 use mathlib.Core.List.{List}
 use Prim.Native.Nat.{ℕ}
+use lib.ListN.{length}
 use Rattle.rules.specs.declared.Account.{Account}
 use Rattle.rules.specs.declared.Hash.{Hash}
+use Rattle.rules.specs.declared.Relay.{Relay}
 use Rattle.rules.specs.declared.Session.{Session}
 use Rattle.rules.specs.declared.Tables.{Tables}
 use Rattle.rules.specs.declared.TablesOutcome.{TablesOutcome}
@@ -11,8 +13,10 @@ use Rattle.rules.specs.declared.SlotOutcome.{SlotOutcome}
 use Rattle.rules.specs.SessionCalls.{openRule, stageRule, abandonRule}
 use Rattle.rules.specs.VolumeCalls.{createRule, depositRule, deleteRule, undeleteRule, removeRule}
 use Rattle.rules.specs.TokenCalls.{grantRule, attenuateRule, revokeRule, lookRule}
-use Rattle.rules.specs.RelayCalls.{registerRule, heartbeatRule}
 use Rattle.rules.specs.Calls.{askRule, workRule}
+use Rattle.relays.specs.declared.RelayChange.{RelayChange}
+use Rattle.relays.specs.Rows.{registerRow, heartbeatRow}
+use Rattle.relays.specs.RowLaws.{register-by-row, register-below, heartbeat-by-row, heartbeat-below}
 use Rattle.tokens.specs.Parts.{scopeArg}
 use Rattle.journal.specs.declared.Record.{Record}
 use Rattle.journal.specs.Places.{accountAt, textAt, hashAt}
@@ -25,17 +29,27 @@ use Rattle.transcripts.specs.declared.TokenCall.the-variants as token
 use Rattle.transcripts.specs.declared.SlotCall.{SlotCall}
 use Rattle.transcripts.specs.declared.SlotCall.the-variants as slot
 use Rattle.transcripts.specs.Groups.{relayAsk, volumeAsk, tokenAsk, lookAsk, deleteAsk, removeAsk, slotWork}
-use Rattle.transcripts.specs.Parts.{Asked}
+use Rattle.transcripts.specs.Parts.{Asked, RelayDone}
+
+-- the calls on the relays, over the clock, the relays and the last number given
+module _ (clock : ℕ) (rows : List Relay) (last : ℕ) (r : Record) (o : RelayChange) (few : length rows ≡ 32) where
+  pub registers : (w : RelayCall) → w ≡ relay.Register → o ≡ registerRow clock rows last (r .amount) → RelayDone clock rows last w r o
+  unfolding askRule
+  registers w e f =
+      record {
+        told = λ t ec er el. rw (e, f, ← ec, ← er, ← el) (register-by-row t (r .amount));
+        below = rw f (register-below clock rows last (r .amount) few);
+      }
+
+  pub beats : (w : RelayCall) → w ≡ relay.Heartbeat → o ≡ heartbeatRow clock rows last (record { 0 = r .no }) → RelayDone clock rows last w r o
+  unfolding askRule
+  beats w e f =
+      record {
+        told = λ t ec er el. rw (e, f, ← ec, ← er, ← el) (heartbeat-by-row t (record { 0 = r .no }));
+        below = rw f (heartbeat-below clock rows last (record { 0 = r .no }) few);
+      }
 
 module _ (t : Tables) (x : TablesOutcome) (r : Record) where
-  pub registers : (w : RelayCall) → w ≡ relay.Register → x ≡ registerRule (r .amount) t → Asked x (relayAsk w r) t
-  unfolding askRule
-  registers w e f = record { same = rw e f }
-
-  pub beats : (w : RelayCall) → w ≡ relay.Heartbeat → x ≡ heartbeatRule (record { 0 = r .no }) t → Asked x (relayAsk w r) t
-  unfolding askRule
-  beats w e f = record { same = rw e f }
-
   -- a is the account and name the text that were taken from the record's bytes l
   module _ (l : List ℕ) where
     pub deposits : (w : VolumeCall) → w ≡ volume.Deposit → x ≡ depositRule (record { 0 = r .no }) (r .amount) t → Asked x (volumeAsk w r l) t

@@ -24,6 +24,9 @@ use Rattle.rules.specs.Laws.SoundParts.{of-parts, tables-sound, slots-sound}
 use Rattle.rules.specs.Laws.StaysSound.{DeskInvariant}
 use Rattle.rules.specs.Calls.{Ask, askRule, Work, commits, workRule, Call, ask, onSlot, withSlot, rule}
 use Rattle.rules.specs.Advance.{isDue, collect}
+use Rattle.rules.specs.Tables.{withRelays, withLastRelay}
+use Rattle.relays.specs.declared.RelayChange.{RelayChange}
+use Rattle.relays.specs.Rows.{onRow}
 use Rattle.epochs.specs.Parts.{collected}
 use Rattle.epochs.specs.Within.{advanceWithin, passWithin, dueWithin}
 use Rattle.epochs.specs.PassLaws.{advance-parts}
@@ -42,7 +45,7 @@ use Rattle.transcripts.specs.declared.Group.the-variants as group
 use Rattle.transcripts.specs.declared.Item.{Item}
 use Rattle.transcripts.specs.Groups.{groupOf, relayAsk, volumeAsk, tokenAsk, lookAsk, deleteAsk, removeAsk, slotWork, callIn, isRecord, StandsAt}
 use Rattle.transcripts.specs.ItemLaws.{call-in-group, slot-there, no-slot-refused, item-named}
-use Rattle.transcripts.specs.Parts.{deskOf, Asked}
+use Rattle.transcripts.specs.Parts.{deskOf, Asked, RelayDone}
 use Rattle.transcripts.proofs.ReplayLaws.{Answered, Carried}
 
 -- ---- a desk that calls reach is sound, and there the work of an advance and of a commit is its rule
@@ -150,15 +153,23 @@ module _ (j : List ℕ) (p : ℕ) (y : Item) (ey : StandsAt j p y) where
     pub no-slot-said : g ≡ group.NoSlot → a ≡ refusal BAD → Answered g r l t slots a
     no-slot-said e ea = said t slots (none-carried e ea)
 
+    -- o is what the call on the relays gave: the row that it changes
+    module _ (o : RelayChange) (ea : a ≡ o .answer) (w : RelayCall) (f : RelayDone (t .clock) (t .relays) (t .«last_relay») w r o) (e : g ≡ group.Relays w) where
+      changes : Carried g r l t slots a (onRow t o .tables) slots
+      changes = by-ask (rw e) (onRow t o) (relayAsk w r) (rw e) (f .told t refl refl refl) ea
+
+      pub relays-said : Answered g r l t slots a
+      relays-said = said (onRow t o .tables) slots changes
+
+      pub relays-changed : o .changed ≡ true → (t′ : Tables) (slots′ : List Session) → t′ ≡ withLastRelay (withRelays t (set (t .relays) (o .at) (o .row))) (o .last)
+          → slots′ ≡ slots → Carried g r l t slots a t′ slots′
+      relays-changed ec t′ slots′ et es = rw (et, es) (rw ec at changes)
+
+      pub relays-kept : o .changed ≡ false → (t′ : Tables) (slots′ : List Session) → t′ ≡ t → slots′ ≡ slots → Carried g r l t slots a t′ slots′
+      relays-kept ec t′ slots′ et es = rw (et, es) (rw ec at changes)
+
     -- x is what the call on the tables gave
     module _ (x : TablesOutcome) where
-      pub relays-carried : (w : RelayCall) → Asked x (relayAsk w r) t → g ≡ group.Relays w → a ≡ x .answer → (t′ : Tables) (slots′ : List Session) → t′ ≡ x .tables → slots′ ≡ slots
-          → Carried g r l t slots a t′ slots′
-      relays-carried w f e ea t′ slots′ et es = rw (et, es) (by-ask (rw e) x (relayAsk w r) (rw e) (f .same) ea)
-
-      pub relays-said : (w : RelayCall) → Asked x (relayAsk w r) t → g ≡ group.Relays w → a ≡ x .answer → Answered g r l t slots a
-      relays-said w f e ea = said (x .tables) slots (by-ask (rw e) x (relayAsk w r) (rw e) (f .same) ea)
-
       pub volumes-carried : (w : VolumeCall) → Asked x (volumeAsk w r l) t → g ≡ group.Volumes w → a ≡ x .answer → (t′ : Tables) (slots′ : List Session) → t′ ≡ x .tables → slots′ ≡ slots
           → Carried g r l t slots a t′ slots′
       volumes-carried w f e ea t′ slots′ et es = rw (et, es) (by-ask (rw e) x (volumeAsk w r l) (rw e) (f .same) ea)

@@ -1,11 +1,18 @@
 -- The desk in two parts, as a replay holds it, and what the rules of calls give. Assumes nothing.
 use mathlib.Core.Path.{_≡_}
 use mathlib.Core.List.{List}
+use Prim.Native.Nat.{ℕ, _<_}
+use Rattle.rules.specs.declared.Relay.{Relay}
 use Rattle.rules.specs.declared.Session.{Session}
 use Rattle.rules.specs.declared.Tables.{Tables}
 use Rattle.rules.specs.declared.Desk.{Desk}
 use Rattle.rules.specs.declared.TablesOutcome.{TablesOutcome}
 use Rattle.rules.specs.Calls.{Ask, askRule}
+use Rattle.relays.specs.declared.RelayChange.{RelayChange}
+use Rattle.relays.specs.Rows.{onRow}
+use Rattle.journal.specs.declared.Record.{Record}
+use Rattle.transcripts.specs.declared.RelayCall.{RelayCall}
+use Rattle.transcripts.specs.Groups.{relayAsk}
 
 abbrev pub deskOf : Tables → List Session → Desk
 deskOf t slots = record { tables = t; sessions = slots }
@@ -13,3 +20,10 @@ deskOf t slots = record { tables = t; sessions = slots }
 -- x is what the rule of a call on the tables t gives
 pub record Asked (x : TablesOutcome) (q : Ask) (t : Tables) : Type 0 where
   pub same : x ≡ askRule q t
+
+-- ---- the work of a record over the parts of the tables that its call reads
+
+-- a call on the relays: o has the row that it changes
+pub record RelayDone (clock : ℕ) (rows : List Relay) (last : ℕ) (w : RelayCall) (r : Record) (o : RelayChange) : Type 0 where
+  pub told : (t : Tables) → t .clock ≡ clock → t .relays ≡ rows → t .«last_relay» ≡ last → onRow t o ≡ askRule (relayAsk w r) t
+  pub below : o .at < 32

@@ -3,11 +3,10 @@ ghost use mathlib.Core.Path.{_≡_};
 ghost use Rattle.rules.specs.Calls.{workRule};
 ghost use Rattle.entries.specs.Parts.{onRemove};
 ghost use Rattle.sessions.specs.Parts.{onSession};
-ghost use Rattle.relays.specs.Parts.{onRelays};
 ghost use Rattle.volumes.specs.Parts.{onVolumes, onDelete};
 ghost use Rattle.tokens.specs.Parts.{onTokens, unchanged};
-ghost use Rattle.transcripts.specs.Groups.{relayAsk, volumeAsk, tokenAsk, lookAsk, deleteAsk, removeAsk, slotWork};
-ghost use Rattle.transcripts.specs.Parts.{Asked};
+ghost use Rattle.transcripts.specs.Groups.{volumeAsk, tokenAsk, lookAsk, deleteAsk, removeAsk, slotWork};
+ghost use Rattle.transcripts.specs.Parts.{Asked, RelayDone};
 use super::RelayCall;
 use super::SlotCall;
 use super::TokenCall;
@@ -17,8 +16,9 @@ use journal::Record;
 use journal::account_of;
 use journal::hash_of;
 use journal::text_of;
-use relays::RelaysOutcome;
+use relays::RelayChange;
 use rules::Answer;
+use rules::Relay;
 use rules::RelayNo;
 use rules::Session;
 use rules::Tables;
@@ -29,12 +29,18 @@ use tokens::TokensOutcome;
 use volumes::DeleteOutcome;
 use volumes::VolumesOutcome;
 
-pub(crate) fn relay_call(t: Tables, which: RelayCall, r: Record) -> RelaysOutcome
-    ensures { λ o. ⌜ Asked (onRelays t o) (relayAsk which r) t ⌝ }
+pub(crate) fn relay_call(
+    clock: u64,
+    rows: [Relay; 32],
+    last: u32,
+    which: RelayCall,
+    r: Record,
+) -> RelayChange
+    ensures { λ o. ⌜ RelayDone clock rows last which r o ⌝ }
 {
     match which {
-        RelayCall::Register => relays::register_on(t, r.amount),
-        RelayCall::Heartbeat => relays::heartbeat_on(t, RelayNo(r.no)),
+        RelayCall::Register => relays::register_row(clock, rows, last, r.amount),
+        RelayCall::Heartbeat => relays::heartbeat_row(clock, rows, last, RelayNo(r.no)),
     }
 }
 

@@ -51,8 +51,9 @@ fn done(len: usize, t: Tables, slots: [Session; 4]) -> Replayed
     }
 }
 
-// The records of a journal one after another, and the last line. The parts that a call gives back are stored in place, so that a
-// heartbeat moves the relay table and nothing else. `n` is how many records stand before `p`.
+// The records of a journal one after another, and the last line. The parts that a call gives back are stored in place. `n` is how many
+// records stand before `p`. The relays are a table by itself, and `t` has them where a call reads it: a row that is stored at a place in `t`
+// would have all of `t` copied for the calls that take it, and half of a journal's calls store a relay's row.
 pub(crate) fn replay_records(journal: &[u8], out: &mut [u8], start: usize) -> Replayed
     requires { ⌜ (areBytes (now journal) ≡ true) × (length (now journal) < 65536) × (start + length (printedFrom 0 (freshDesk programRate) (records v01 (now journal))) ≤ length (now out)) ⌝ }
     ensures { λ r. ⌜ Replays start (records v01 (now (journal .entry))) (now (out .entry)) r (now (out .exit)) ⌝ }
@@ -63,6 +64,7 @@ pub(crate) fn replay_records(journal: &[u8], out: &mut [u8], start: usize) -> Re
     let mut n: u64 = 0;
     let mut p: usize = 0;
     let mut at = start;
+    let mut relays = t.relays;
     loop {
         let item = item_at(journal, p);
         let r = item.fields;
@@ -71,16 +73,26 @@ pub(crate) fn replay_records(journal: &[u8], out: &mut [u8], start: usize) -> Re
         p = item.after;
         n += 1;
         match group {
-            Group::End => return done(put_end_line(out, at, n - 1), t, slots),
-            Group::Stop(number) => return done(put_stop_line(out, at, n - 1, number), t, slots),
-            Group::Relays(which) => {
-                let o = relay_call(t, which, r);
-                at = put_record_line(out, at, n, o.answer);
-                let relays = o.relays;
+            Group::End => {
                 t.relays = relays;
-                t.last_relay = o.last;
+                return done(put_end_line(out, at, n - 1), t, slots);
+            }
+            Group::Stop(number) => {
+                t.relays = relays;
+                return done(put_stop_line(out, at, n - 1, number), t, slots);
+            }
+            Group::Relays(which) => {
+                let o = relay_call(t.clock, relays, t.last_relay, which, r);
+                at = put_record_line(out, at, n, o.answer);
+                if o.changed {
+                    let i = o.at;
+                    let row = o.row;
+                    relays[i] = row;
+                    t.last_relay = o.last;
+                }
             }
             Group::Volumes(which) => {
+                t.relays = relays;
                 let o = volume_call(t, which, r, body);
                 at = put_record_line(out, at, n, o.answer);
                 let volumes = o.volumes;
@@ -89,6 +101,7 @@ pub(crate) fn replay_records(journal: &[u8], out: &mut [u8], start: usize) -> Re
                 t.deposits = o.deposits;
             }
             Group::Tokens(which) => {
+                t.relays = relays;
                 let o = token_call(t, which, r, body);
                 at = put_record_line(out, at, n, o.answer);
                 let tokens = o.tokens;
@@ -98,20 +111,25 @@ pub(crate) fn replay_records(journal: &[u8], out: &mut [u8], start: usize) -> Re
             Group::Slot(which) => {
                 let i = r.slot as usize;
                 let s = slots[i];
+                t.relays = relays;
                 let o = slot_call(t, s, which, r, body);
                 at = put_record_line(out, at, n, o.answer);
                 let session = o.session;
                 slots[i] = session;
             }
             Group::NoSlot => at = put_record_line(out, at, n, rules::refusal(BAD)),
-            Group::Look => at = put_record_line(out, at, n, look_call(t, r, body)),
+            Group::Look => {
+                t.relays = relays;
+                at = put_record_line(out, at, n, look_call(t, r, body));
+            }
             Group::Advance => {
+                t.relays = relays;
                 let o = pass_on(t, r.amount);
                 at = put_record_line(out, at, n, o.answer);
                 t.clock = o.clock;
                 let volumes = o.volumes;
                 t.volumes = volumes;
-                let relays = o.relays;
+                relays = o.relays;
                 t.relays = relays;
                 if o.due {
                     let c = collect_on(t, r.amount);
@@ -121,11 +139,11 @@ pub(crate) fn replay_records(journal: &[u8], out: &mut [u8], start: usize) -> Re
                     t.entries = entries;
                     let tokens = c.tokens;
                     t.tokens = tokens;
-                    let relays = c.relays;
-                    t.relays = relays;
+                    relays = c.relays;
                 }
             }
             Group::Delete => {
+                t.relays = relays;
                 let o = delete_call(t, r, body);
                 at = put_record_line(out, at, n, o.answer);
                 let volumes = o.volumes;
@@ -136,6 +154,7 @@ pub(crate) fn replay_records(journal: &[u8], out: &mut [u8], start: usize) -> Re
             Group::Commit => {
                 let i = r.slot as usize;
                 let s = slots[i];
+                t.relays = relays;
                 let o = commit_on(t, s);
                 at = put_record_line(out, at, n, o.answer);
                 let volumes = o.volumes;
@@ -144,20 +163,19 @@ pub(crate) fn replay_records(journal: &[u8], out: &mut [u8], start: usize) -> Re
                 t.entries = entries;
                 let tokens = o.tokens;
                 t.tokens = tokens;
-                let relays = o.relays;
-                t.relays = relays;
+                relays = o.relays;
                 let after = o.session;
                 slots[i] = after;
             }
             Group::Remove => {
+                t.relays = relays;
                 let o = remove_call(t, r, body);
                 at = put_record_line(out, at, n, o.answer);
                 let volumes = o.volumes;
                 t.volumes = volumes;
                 let entries = o.entries;
                 t.entries = entries;
-                let relays = o.relays;
-                t.relays = relays;
+                relays = o.relays;
             }
         }
     }

@@ -3,7 +3,8 @@
 use Prim.Native.Nat.{_-_}
 use lib.ListN.{length}
 use borrow.Author.Needs.{needs}
-use Rattle.transcripts.proofs.GroupLaws.{relays-stand, relays-said, relays-carried, volumes-stand, volumes-said, volumes-carried, tokens-stand, tokens-said, tokens-carried, slot-below, slot-stand, slot-said, slot-carried, no-slot-stand, no-slot-said, no-slot-carried, look-stand, look-said, look-carried, advance-stand, advance-said, advance-carried, collection-carried, delete-stand, delete-said, delete-carried, commit-below, commit-stand, commit-said, commit-carried, remove-stand, remove-said, remove-carried}
+use Rattle.rules.specs.Tables.{withRelays}
+use Rattle.transcripts.proofs.GroupLaws.{relays-stand, relays-said, relays-changed, relays-kept, volumes-stand, volumes-said, volumes-carried, tokens-stand, tokens-said, tokens-carried, slot-below, slot-stand, slot-said, slot-carried, no-slot-stand, no-slot-said, no-slot-carried, look-stand, look-said, look-carried, advance-stand, advance-said, advance-carried, collection-carried, delete-stand, delete-said, delete-carried, commit-below, commit-stand, commit-said, commit-carried, remove-stand, remove-said, remove-carried}
 use Rattle.transcripts.proofs.ReplayLaws.{ReplayLoop, replay-start, count-fits, places, ends, stops, line-room, fewer-left, replay-step}
 use Rattle.transcripts.proofs.records.replay_records.Statement.{statement}
 use Rattle.transcripts.proofs.records.replay_records.Tie as tie
@@ -12,8 +13,8 @@ pub replay-records-spec : {M : Type 1} → statement M
 replay-records-spec =
     tie.close
     (tie.spec
-    (λ journal out₀ start t₀ slots₀ n₀ p₀ at₀ out t slots n p at. ReplayLoop journal out₀ start t slots n p at out)
-    (λ journal out₀ start t₀ slots₀ n₀ p₀ at₀ out t slots n p at. length journal - p)
+    (λ journal out₀ start t₀ slots₀ n₀ p₀ at₀ relays₀ out t slots n p at relays. ReplayLoop journal out₀ start (withRelays t relays) slots n p at out)
+    (λ journal out₀ start t₀ slots₀ n₀ p₀ at₀ relays₀ out t slots n p at relays. length journal - p)
     (λ c κs. search needs)
     (λ c κs. search needs)
     (λ c. search (replay-start, needs))
@@ -35,8 +36,12 @@ replay-records-spec =
     (λ c. search needs)
     (λ c κs. search needs)
     (λ c κs. search (line-room, relays-said))
+    (λ c. search needs)
+    (λ c. search needs)
     (λ c. search (fewer-left, relays-stand))
-    (λ c. search (replay-step, relays-carried))
+    (λ c. search (replay-step, relays-changed))
+    (λ c. search (fewer-left, relays-stand))
+    (λ c. search (replay-step, relays-kept))
     (λ c. search needs)
     (λ c κs. search needs)
     (λ c κs. search (line-room, volumes-said))
