@@ -1,15 +1,12 @@
 // Register.
 ghost use mathlib.Core.Path.{_≡_};
-ghost use Prim.Native.Nat.{_<_};
-ghost use Rattle.lists.specs.Lists.{hit};
-ghost use Rattle.rules.specs.RelayCalls.{registerRule, registerIn};
+ghost use Rattle.rules.specs.RelayCalls.{registerRule};
 ghost use Rattle.relays.specs.Parts.{onRelays};
 ghost use Rattle.relays.specs.Rows.{registerRow};
 use super::RelayChange;
 use super::RelaysOutcome;
-use super::answers::accept;
+use super::answers::change_on;
 use super::answers::keep_row;
-use super::answers::refuse;
 use lists::Found;
 use rows::free_relay;
 use rules::Relay;
@@ -19,42 +16,7 @@ use rules::numbers::BAD;
 use rules::numbers::ROOM;
 use rules::numbers::SPENT;
 
-// The new relay takes the row, and its number is the last one given.
-fn store_relay(t: Tables, i: usize, r: Relay) -> RelaysOutcome
-    requires { ⌜ i < 32 ⌝ }
-    ensures { λ x. ⌜ onRelays t x ≡ registerIn t r (hit i r) ⌝ }
-{
-    let mut rows = t.relays;
-    rows[i] = r;
-    accept(t, r.no.0 as u64, rows, r.no.0)
-}
-
-// A relay of so many bytes joins.
-pub fn register_on(t: Tables, capacity: u64) -> RelaysOutcome
-    ensures { λ r. ⌜ onRelays t r ≡ registerRule capacity t ⌝ }
-{
-    if 4398046511104 < capacity {
-        return refuse(t, BAD);
-    }
-    let last = t.last_relay;
-    if 65535 <= last {
-        return refuse(t, SPENT);
-    }
-    let rows = t.relays;
-    let Found::At(i) = free_relay(rows) else {
-        return refuse(t, ROOM);
-    };
-    let row = Relay {
-        no: RelayNo(last + 1),
-        capacity,
-        used: 0,
-        held: 0,
-        beat: t.clock,
-    };
-    store_relay(t, i, row)
-}
-
-// The same as `register_on`, of the clock, a relay table, and the last relay number given.
+// A relay of so many bytes joins, where these are the clock, the relay table, and the last relay number given.
 pub fn register_row(clock: u64, rows: [Relay; 32], last: u32, capacity: u64) -> RelayChange
     ensures { λ r. ⌜ r ≡ registerRow clock rows last capacity ⌝ }
 {
@@ -83,4 +45,13 @@ pub fn register_row(clock: u64, rows: [Relay; 32], last: u32, capacity: u64) -> 
         row,
         last: no,
     }
+}
+
+// A relay of so many bytes joins.
+pub fn register_on(t: Tables, capacity: u64) -> RelaysOutcome
+    ensures { λ r. ⌜ onRelays t r ≡ registerRule capacity t ⌝ }
+{
+    let rows = t.relays;
+    let o = register_row(t.clock, rows, t.last_relay, capacity);
+    change_on(t, o)
 }
