@@ -14,6 +14,7 @@ use Rattle.lists.specs.BoolLaws.{and-left, and-right, not-both}
 use Rattle.lists.specs.SearchLaws.{first-row, first-miss}
 use Rattle.lists.specs.AnswerLaws.{NoRow, AtRow, no-row, at-row, some-given}
 use Rattle.rules.specs.declared.VolumeNo.{VolumeNo}
+use Rattle.rules.specs.declared.TokenNo.{TokenNo}
 use Rattle.rules.specs.declared.Placement.{Placement}
 use Rattle.rules.specs.declared.Volume.{Volume}
 use Rattle.rules.specs.declared.Token.{Token}
@@ -26,12 +27,13 @@ use Rattle.rules.specs.Tables.{staged, isVolume, isToken, tokenOf}
 use Rattle.rules.specs.Scope.{family}
 use Rattle.rules.specs.Outcome.{slotRefused}
 use Rattle.rules.specs.Commit.{stagedBytes, placeAll}
-use Rattle.rows.specs.Blank.{blankVolume}
+use Rattle.rows.specs.Blank.{blankVolume, blankToken}
 use Rattle.commits.specs.declared.CommitOutcome.{CommitOutcome}
 use Rattle.commits.specs.Parts.{onCommit}
 use Rattle.commits.specs.Within.{entryWithin, volumeWithin, tokenWithin, relayWithin, sessionWithin, inLimits, commitWithin}
 use Rattle.commits.specs.Stored.{placedBy, StoredIf}
 use Rattle.rows.specs.Links.{rowIf}
+use Rattle.commits.specs.Early.{earlyToken, earlyVolume}
 use Rattle.commits.specs.Checks.{tokenFault, limitsFault, rowsFault, faultAt, faultBy, canCheck, rowsNumber, Ready, PlacedIf, RowsIf, Surveyed}
 use Rattle.commits.specs.CommitSteps.{kept-ok, relays-ok, volumes-ok, session-ok, puts-ok, count-ok, shards-found, parts-stopped, parts-stored}
 
@@ -174,3 +176,17 @@ module _ (t : Tables) (s : Session) (ms : List Bool) (within : Bool) (kept rows 
         q
         ∙ parts-stored t s ms within kept rows there j k number running (and-left within (allOf tokenWithin (t .tokens)) both-in)
         (and-right within (allOf tokenWithin (t .tokens)) both-in) w f e z i places rs a o h b
+
+-- the first checks: no volume, or at its row; and so for the token
+module _ (clock : ℕ) (s : Session) where
+  pub early-volume-none : (tokens : List Token) (n : VolumeNo) (volumes : List Volume) → NoRow (earlyVolume clock tokens s) (isVolume n) volumes
+  early-volume-none tokens n volumes = no-row (earlyVolume clock tokens s) _ _
+
+  pub early-volume-at : (tokens : List Token) (n : VolumeNo) (volumes : List Volume) → AtRow (earlyVolume clock tokens s) (isVolume n) volumes blankVolume
+  early-volume-at tokens n volumes = at-row (earlyVolume clock tokens s) _ _ _
+
+  pub early-token-none : (v : Volume) (n : TokenNo) (tokens : List Token) → NoRow (earlyToken clock s v) (isToken n) tokens
+  early-token-none v n tokens = no-row (earlyToken clock s v) _ _
+
+  pub early-token-at : (v : Volume) (n : TokenNo) (tokens : List Token) → AtRow (earlyToken clock s v) (isToken n) tokens blankToken
+  early-token-at v n tokens = at-row (earlyToken clock s v) _ _ _

@@ -8,3 +8,4 @@ pub mod CommitSums
 pub mod CommitSteps
 pub mod NewSurvey
 pub mod SurveyedLaws
+pub mod Early

@@ -4,9 +4,12 @@ ghost use mathlib.Core.Path.{_≡_};
 ghost use mathlib.Core.Bool.{true};
 ghost use Prim.Native.Nat.{_*_, _<_, _≤_, _^_};
 ghost use lib.ListN.{getD, take};
+ghost use Rattle.lists.specs.Lists.{find};
+ghost use Rattle.rules.specs.Tables.{isToken};
 ghost use Rattle.rules.specs.Sound.{shardsFit};
 ghost use Rattle.rows.specs.Blank.{blankVolume};
 ghost use Rattle.rows.specs.Links.{rowIf};
+ghost use Rattle.commits.specs.Early.{earlyToken, earlyNumber};
 ghost use Rattle.commits.specs.Checks.{tokenFault, limitsFault, rowsFault, rowsNumber, Ready, PlacedIf, RowsIf};
 use super::Checked;
 use super::Places;
@@ -20,6 +23,7 @@ use super::sizes::below_rent;
 use super::sizes::staged_bytes;
 use super::within::can_check;
 use lists::Found;
+use rows::find_token;
 use rows::find_volume;
 use rows::in_window;
 use rows::is_active;
@@ -35,6 +39,7 @@ use rules::numbers::NO_VOLUME;
 use rules::numbers::QUOTA;
 use rules::numbers::RENT;
 use rules::numbers::ROOM;
+use rules::numbers::SESSION;
 use rules::numbers::SIZE;
 use rules::numbers::SPENT;
 use rules::numbers::STATE;
@@ -79,6 +84,34 @@ fn token_fault(clock: u64, v: Volume, version: u32, k: Token) -> u32
         return SPENT;
     }
     0
+}
+
+// The token, then its window and the volume's status and version.
+fn early_token(clock: u64, tokens: [Token; 32], s: Session, v: Volume) -> u32
+    ensures { λ r. ⌜ r ≡ earlyToken clock s v (find (isToken (s .token)) tokens) ⌝ }
+{
+    let n = s.token;
+    let Found::At(j) = find_token(tokens, n) else {
+        return NO_TOKEN;
+    };
+    let k = tokens[j];
+    token_fault(clock, v, s.version, k)
+}
+
+// The first checks of a commit, which read neither the entries nor the relays: the number of the refusal, or 0. A caller that asks
+// first need not hand the other tables on for a commit that these refuse.
+pub fn early_refusal(clock: u64, volumes: [Volume; 8], tokens: [Token; 32], s: Session) -> u32
+    ensures { λ r. ⌜ r ≡ earlyNumber clock volumes tokens s ⌝ }
+{
+    if s.token.0 == 0 {
+        return SESSION;
+    }
+    let n = s.volume;
+    let Found::At(i) = find_volume(volumes, n) else {
+        return NO_VOLUME;
+    };
+    let v = volumes[i];
+    early_token(clock, tokens, s, v)
 }
 
 // The quotas of the token and its ancestors, the volume's cap, the number of entries, and the rent.

@@ -12,6 +12,7 @@ mod surveys;
 mod within;
 
 pub use checks::check_rows;
+pub use checks::early_refusal;
 pub use commit::commit_on;
 pub use commit::store_rows;
 use rules::Answer;
