@@ -3,9 +3,15 @@
 use mathlib.Core.Path.{_≡_, refl, sym, _∙_, ap}
 use mathlib.Core.Bool.{Bool, true, false}
 use mathlib.Core.List.{List}
-use Prim.Native.Nat.{ℕ, _<_}
-use borrow.Author.Tests.{lt-leb}
+use Prim.Native.Nat.{ℕ, _*_, _^_, _<_}
+use native.Mathlib.Nat.{mul-le-mul-right}
+use native.Mathlib.Omega.{arith}
+use mir.Val.{Fits}
+use mir.Syntax.{w64}
+use borrow.Author.Tests.{lt-leb, ltb-true}
+use lib.Dec.{ltb}
 use lib.ListN.{getD, set}
+use lib.Seq.{set-getD}
 use Rattle.lists.specs.RowLaws.{same-row}
 use Rattle.lists.specs.TestLaws.{all-at}
 use Rattle.rules.specs.declared.Answer.{Answer}
@@ -18,7 +24,8 @@ use Rattle.rules.specs.declared.Outcome.{Outcome}
 use Rattle.rules.specs.Limits.{slotRows}
 use Rattle.rules.specs.Numbers.{BAD}
 use Rattle.rules.specs.Fresh.{freshSession}
-use Rattle.rules.specs.Outcome.{refusal, onTables}
+use Rattle.rules.specs.Outcome.{refusal, onTables, slotRefused}
+use Rattle.rules.specs.Commit.{commitRule}
 use Rattle.rules.specs.Sound.{soundTables, soundSession}
 use Rattle.rules.specs.Laws.SoundParts.{of-parts, tables-sound, slots-sound}
 use Rattle.rules.specs.Laws.StaysSound.{DeskInvariant}
@@ -33,6 +40,7 @@ use Rattle.epochs.specs.PassLaws.{advance-parts}
 use Rattle.epochs.specs.WithinLaws.{advance-sound}
 use Rattle.commits.specs.Within.{commitWithin}
 use Rattle.commits.specs.WithinLaws.{commit-sound}
+use Rattle.commits.specs.Early.{earlyNumber, early-refused}
 use Rattle.journal.specs.declared.Record.{Record}
 use Rattle.journal.specs.Records.{v01}
 use Rattle.journal.specs.Places.{callAt}
@@ -46,7 +54,7 @@ use Rattle.transcripts.specs.declared.Item.{Item}
 use Rattle.transcripts.specs.Groups.{groupOf, relayAsk, volumeAsk, tokenAsk, lookAsk, deleteAsk, removeAsk, slotWork, callIn, isRecord, StandsAt}
 use Rattle.transcripts.specs.ItemLaws.{call-in-group, slot-there, no-slot-refused, item-named}
 use Rattle.transcripts.specs.Parts.{deskOf, Asked, RelayDone}
-use Rattle.transcripts.proofs.ReplayLaws.{Answered, Carried}
+use Rattle.transcripts.proofs.ReplayLaws.{ReplayLoop, Answered, Carried}
 
 -- ---- a desk that calls reach is sound, and there the work of an advance and of a commit is its rule
 
@@ -122,6 +130,10 @@ module _ (j : List ℕ) (p : ℕ) (y : Item) (ey : StandsAt j p y) where
 
   pub commit-below : g ≡ group.Commit → r .slot < 4
   commit-below e = slot-there (r .kind) (r .slot) (rw (← named (rw e), e))
+
+  -- and its place in memory
+  pub commit-fits : (m : ℕ) → ltb (4 * m) (2 ^ 64) ≡ true → g ≡ group.Commit → Fits w64 (r .slot * m)
+  commit-fits m w e = record { fits = omega (arith, mul-le-mul-right m (commit-below e), ltb-true (4 * m) (2 ^ 64) w) }
 
   module _ (l : List ℕ) (t : Tables) (slots : List Session) (a : Answer) where
     by-outcome : isRecord g ≡ true → (o : Outcome) → o ≡ rule (callIn g r l) (deskOf t slots) → a ≡ o .answer → Carried g r l t slots a (o .desk .tables) (o .desk .sessions)
@@ -244,11 +256,20 @@ module _ (j : List ℕ) (p : ℕ) (y : Item) (ey : StandsAt j p y) where
         pub slot-said : Answered g r l t slots a
         slot-said = said (x .tables) (set slots (r .slot) (x .session)) works
 
-      module _ (f : x ≡ commitWithin t (getD slots (r .slot) d)) (e : g ≡ group.Commit) where
+    -- a commit; d would stand for a session past the slots
+    module _ (out₀ : List ℕ) (start n at : ℕ) (out : List ℕ) (h : ReplayLoop j out₀ start t slots n p at out) (d : Session) (e : g ≡ group.Commit) where
+      abbrev session : Session
+      session = getD slots (r .slot) d
+
+      slot-session : session ≡ getD slots (r .slot) freshSession
+      slot-session = same-row slots (r .slot) d freshSession (rw (h .held .slots) (commit-below e))
+
+      -- x is what it gave
+      module _ (x : SlotOutcome) (ea : a ≡ x .answer) (f : x ≡ commitWithin t session) where
         commits-on : Carried g r l t slots a (x .tables) (set slots (r .slot) (x .session))
         commits-on =
             by-work (rw e) x commits (rw e) (commit-below e)
-            (f ∙ ap (commitWithin t) (its-session (commit-below e)) ∙ commit-is (deskOf t slots) i (r .slot) (commit-below e))
+            (f ∙ ap (commitWithin t) slot-session ∙ commit-is (deskOf t slots) (h .held) (r .slot) (commit-below e))
             ea
 
         pub commit-carried : (t′ : Tables) (slots′ : List Session) → t′ ≡ x .tables → slots′ ≡ set slots (r .slot) (x .session)
@@ -257,3 +278,19 @@ module _ (j : List ℕ) (p : ℕ) (y : Item) (ey : StandsAt j p y) where
 
         pub commit-said : Answered g r l t slots a
         commit-said = said (x .tables) (set slots (r .slot) (x .session)) commits-on
+
+      -- its first checks refuse it
+      module _ (number : ℕ) (ea : a ≡ refusal number) (f : number ≡ earlyNumber (t .clock) (t .volumes) (t .tokens) session) (z : number ≡ 0 → ⊥) where
+        refuses : slotRefused t session number ≡ workRule commits t (getD slots (r .slot) freshSession)
+        unfolding workRule
+        refuses = sym (early-refused t session number f z) ∙ ap (commitRule t) slot-session
+
+        refused-on : Carried g r l t slots a t slots
+        refused-on =
+            rw (set-getD slots (r .slot) d) at (by-work (rw e) (slotRefused t session number) commits (rw e) (commit-below e) refuses ea)
+
+        pub refused-said : Answered g r l t slots a
+        refused-said = said t slots refused-on
+
+        pub refused-carried : (t′ : Tables) (slots′ : List Session) → t′ ≡ t → slots′ ≡ slots → Carried g r l t slots a t′ slots′
+        refused-carried t′ slots′ et es = rw (et, es) refused-on

@@ -2,17 +2,19 @@
 ghost use mathlib.Core.Path.{_≡_};
 ghost use Rattle.rules.specs.Calls.{workRule};
 ghost use Rattle.entries.specs.Parts.{onRemove};
+ghost use Rattle.commits.specs.Early.{earlyNumber};
 ghost use Rattle.sessions.specs.Parts.{onSession};
 ghost use Rattle.volumes.specs.Parts.{onVolumes, onDelete};
 ghost use Rattle.tokens.specs.Parts.{onTokens, unchanged};
 ghost use Rattle.transcripts.specs.Groups.{volumeAsk, tokenAsk, lookAsk, deleteAsk, removeAsk, slotWork};
 ghost use Rattle.transcripts.specs.Parts.{Asked, RelayDone};
+use super::Item;
 use super::RelayCall;
 use super::SlotCall;
 use super::TokenCall;
 use super::VolumeCall;
+use commits::early_refusal;
 use entries::RemoveOutcome;
-use journal::Record;
 use journal::account_of;
 use journal::hash_of;
 use journal::text_of;
@@ -34,19 +36,21 @@ pub(crate) fn relay_call(
     rows: [Relay; 32],
     last: u32,
     which: RelayCall,
-    r: Record,
+    item: Item,
 ) -> RelayChange
-    ensures { λ o. ⌜ RelayDone clock rows last which r o ⌝ }
+    ensures { λ o. ⌜ RelayDone clock rows last which (item .fields) o ⌝ }
 {
+    let r = item.fields;
     match which {
         RelayCall::Register => relays::register_row(clock, rows, last, r.amount),
         RelayCall::Heartbeat => relays::heartbeat_row(clock, rows, last, RelayNo(r.no)),
     }
 }
 
-pub(crate) fn volume_call(t: Tables, which: VolumeCall, r: Record, body: &[u8]) -> VolumesOutcome
-    ensures { λ o. ⌜ Asked (onVolumes t o) (volumeAsk which r (now (body .entry))) t ⌝ }
+pub(crate) fn volume_call(t: Tables, which: VolumeCall, item: Item, body: &[u8]) -> VolumesOutcome
+    ensures { λ o. ⌜ Asked (onVolumes t o) (volumeAsk which (item .fields) (now (body .entry))) t ⌝ }
 {
+    let r = item.fields;
     let cap = r.cap;
     match which {
         VolumeCall::Create => {
@@ -58,9 +62,10 @@ pub(crate) fn volume_call(t: Tables, which: VolumeCall, r: Record, body: &[u8]) 
     }
 }
 
-pub(crate) fn token_call(t: Tables, which: TokenCall, r: Record, body: &[u8]) -> TokensOutcome
-    ensures { λ o. ⌜ Asked (onTokens t o) (tokenAsk which r (now (body .entry))) t ⌝ }
+pub(crate) fn token_call(t: Tables, which: TokenCall, item: Item, body: &[u8]) -> TokensOutcome
+    ensures { λ o. ⌜ Asked (onTokens t o) (tokenAsk which (item .fields) (now (body .entry))) t ⌝ }
 {
+    let r = item.fields;
     let n = r.no;
     let mode = r.mode;
     let cap = r.cap;
@@ -81,21 +86,24 @@ pub(crate) fn token_call(t: Tables, which: TokenCall, r: Record, body: &[u8]) ->
     }
 }
 
-pub(crate) fn look_call(t: Tables, r: Record, body: &[u8]) -> Answer
-    ensures { λ a. ⌜ Asked (unchanged t a) (lookAsk r (now (body .entry))) t ⌝ }
+pub(crate) fn look_call(t: Tables, item: Item, body: &[u8]) -> Answer
+    ensures { λ a. ⌜ Asked (unchanged t a) (lookAsk (item .fields) (now (body .entry))) t ⌝ }
 {
+    let r = item.fields;
     tokens::look_on(t, TokenNo(r.no), text_of(body, r))
 }
 
-pub(crate) fn delete_call(t: Tables, r: Record, body: &[u8]) -> DeleteOutcome
-    ensures { λ o. ⌜ Asked (onDelete t o) (deleteAsk r (now (body .entry))) t ⌝ }
+pub(crate) fn delete_call(t: Tables, item: Item, body: &[u8]) -> DeleteOutcome
+    ensures { λ o. ⌜ Asked (onDelete t o) (deleteAsk (item .fields) (now (body .entry))) t ⌝ }
 {
+    let r = item.fields;
     volumes::delete_on(t, account_of(body, r), VolumeNo(r.no))
 }
 
-pub(crate) fn remove_call(t: Tables, r: Record, body: &[u8]) -> RemoveOutcome
-    ensures { λ o. ⌜ Asked (onRemove t o) (removeAsk r (now (body .entry))) t ⌝ }
+pub(crate) fn remove_call(t: Tables, item: Item, body: &[u8]) -> RemoveOutcome
+    ensures { λ o. ⌜ Asked (onRemove t o) (removeAsk (item .fields) (now (body .entry))) t ⌝ }
 {
+    let r = item.fields;
     let a = account_of(body, r);
     entries::remove_on(t, a, VolumeNo(r.no), text_of(body, r))
 }
@@ -105,11 +113,12 @@ pub(crate) fn slot_call(
     t: Tables,
     s: Session,
     which: SlotCall,
-    r: Record,
+    item: Item,
     body: &[u8],
 ) -> SessionOutcome
-    ensures { λ o. ⌜ onSession t o ≡ workRule (slotWork which r (now (body .entry))) t s ⌝ }
+    ensures { λ o. ⌜ onSession t o ≡ workRule (slotWork which (item .fields) (now (body .entry))) t s ⌝ }
 {
+    let r = item.fields;
     match which {
         SlotCall::Open => sessions::open_on(t, s, TokenNo(r.no)),
         SlotCall::Stage => {
@@ -118,4 +127,13 @@ pub(crate) fn slot_call(
         }
         SlotCall::Abandon => sessions::abandon_on(t, s),
     }
+}
+
+// The number of the first checks of a commit: of the refusal, or 0.
+pub(crate) fn early_number(t: Tables, s: Session) -> u32
+    ensures { λ n. ⌜ n ≡ earlyNumber (t .clock) (t .volumes) (t .tokens) s ⌝ }
+{
+    let volumes = t.volumes;
+    let tokens = t.tokens;
+    early_refusal(t.clock, volumes, tokens, s)
 }

@@ -14,6 +14,7 @@ ghost use Rattle.transcripts.specs.TranscriptLaws.{printedFrom};
 use super::Group;
 use super::Replayed;
 use super::carry::delete_call;
+use super::carry::early_number;
 use super::carry::look_call;
 use super::carry::relay_call;
 use super::carry::remove_call;
@@ -67,7 +68,6 @@ pub(crate) fn replay_records(journal: &[u8], out: &mut [u8], start: usize) -> Re
     let mut relays = t.relays;
     loop {
         let item = item_at(journal, p);
-        let r = item.fields;
         let group = item.group;
         let body = body_at(journal, p, item.after);
         p = item.after;
@@ -82,7 +82,7 @@ pub(crate) fn replay_records(journal: &[u8], out: &mut [u8], start: usize) -> Re
                 return done(put_stop_line(out, at, n - 1, number), t, slots);
             }
             Group::Relays(which) => {
-                let o = relay_call(t.clock, relays, t.last_relay, which, r);
+                let o = relay_call(t.clock, relays, t.last_relay, which, item);
                 at = put_record_line(out, at, n, o.answer);
                 if o.changed {
                     let i = o.at;
@@ -93,7 +93,7 @@ pub(crate) fn replay_records(journal: &[u8], out: &mut [u8], start: usize) -> Re
             }
             Group::Volumes(which) => {
                 t.relays = relays;
-                let o = volume_call(t, which, r, body);
+                let o = volume_call(t, which, item, body);
                 at = put_record_line(out, at, n, o.answer);
                 let volumes = o.volumes;
                 t.volumes = volumes;
@@ -102,17 +102,17 @@ pub(crate) fn replay_records(journal: &[u8], out: &mut [u8], start: usize) -> Re
             }
             Group::Tokens(which) => {
                 t.relays = relays;
-                let o = token_call(t, which, r, body);
+                let o = token_call(t, which, item, body);
                 at = put_record_line(out, at, n, o.answer);
                 let tokens = o.tokens;
                 t.tokens = tokens;
                 t.last_token = o.last;
             }
             Group::Slot(which) => {
-                let i = r.slot as usize;
+                let i = item.fields.slot as usize;
                 let s = slots[i];
                 t.relays = relays;
-                let o = slot_call(t, s, which, r, body);
+                let o = slot_call(t, s, which, item, body);
                 at = put_record_line(out, at, n, o.answer);
                 let session = o.session;
                 slots[i] = session;
@@ -120,11 +120,11 @@ pub(crate) fn replay_records(journal: &[u8], out: &mut [u8], start: usize) -> Re
             Group::NoSlot => at = put_record_line(out, at, n, rules::refusal(BAD)),
             Group::Look => {
                 t.relays = relays;
-                at = put_record_line(out, at, n, look_call(t, r, body));
+                at = put_record_line(out, at, n, look_call(t, item, body));
             }
             Group::Advance => {
                 t.relays = relays;
-                let o = pass_on(t, r.amount);
+                let o = pass_on(t, item.fields.amount);
                 at = put_record_line(out, at, n, o.answer);
                 t.clock = o.clock;
                 let volumes = o.volumes;
@@ -132,7 +132,7 @@ pub(crate) fn replay_records(journal: &[u8], out: &mut [u8], start: usize) -> Re
                 relays = o.relays;
                 t.relays = relays;
                 if o.due {
-                    let c = collect_on(t, r.amount);
+                    let c = collect_on(t, item.fields.amount);
                     let volumes = c.volumes;
                     t.volumes = volumes;
                     let entries = c.entries;
@@ -144,7 +144,7 @@ pub(crate) fn replay_records(journal: &[u8], out: &mut [u8], start: usize) -> Re
             }
             Group::Delete => {
                 t.relays = relays;
-                let o = delete_call(t, r, body);
+                let o = delete_call(t, item, body);
                 at = put_record_line(out, at, n, o.answer);
                 let volumes = o.volumes;
                 t.volumes = volumes;
@@ -152,24 +152,29 @@ pub(crate) fn replay_records(journal: &[u8], out: &mut [u8], start: usize) -> Re
                 t.tokens = tokens;
             }
             Group::Commit => {
-                let i = r.slot as usize;
+                let i = item.fields.slot as usize;
                 let s = slots[i];
-                t.relays = relays;
-                let o = commit_on(t, s);
-                at = put_record_line(out, at, n, o.answer);
-                let volumes = o.volumes;
-                t.volumes = volumes;
-                let entries = o.entries;
-                t.entries = entries;
-                let tokens = o.tokens;
-                t.tokens = tokens;
-                relays = o.relays;
-                let after = o.session;
-                slots[i] = after;
+                let number = early_number(t, s);
+                if number != 0 {
+                    at = put_record_line(out, at, n, rules::refusal(number));
+                } else {
+                    t.relays = relays;
+                    let o = commit_on(t, s);
+                    let after = o.session;
+                    slots[i] = after;
+                    at = put_record_line(out, at, n, o.answer);
+                    let volumes = o.volumes;
+                    t.volumes = volumes;
+                    let entries = o.entries;
+                    t.entries = entries;
+                    let tokens = o.tokens;
+                    t.tokens = tokens;
+                    relays = o.relays;
+                }
             }
             Group::Remove => {
                 t.relays = relays;
-                let o = remove_call(t, r, body);
+                let o = remove_call(t, item, body);
                 at = put_record_line(out, at, n, o.answer);
                 let volumes = o.volumes;
                 t.volumes = volumes;

@@ -4,7 +4,7 @@ use Prim.Native.Nat.{_-_}
 use lib.ListN.{length}
 use borrow.Author.Needs.{needs}
 use Rattle.rules.specs.Tables.{withRelays}
-use Rattle.transcripts.proofs.GroupLaws.{relays-stand, relays-said, relays-changed, relays-kept, volumes-stand, volumes-said, volumes-carried, tokens-stand, tokens-said, tokens-carried, slot-below, slot-stand, slot-said, slot-carried, no-slot-stand, no-slot-said, no-slot-carried, look-stand, look-said, look-carried, advance-stand, advance-said, advance-carried, collection-carried, delete-stand, delete-said, delete-carried, commit-below, commit-stand, commit-said, commit-carried, remove-stand, remove-said, remove-carried}
+use Rattle.transcripts.proofs.GroupLaws.{relays-stand, relays-said, relays-changed, relays-kept, volumes-stand, volumes-said, volumes-carried, tokens-stand, tokens-said, tokens-carried, slot-below, slot-stand, slot-said, slot-carried, no-slot-stand, no-slot-said, no-slot-carried, look-stand, look-said, look-carried, advance-stand, advance-said, advance-carried, collection-carried, delete-stand, delete-said, delete-carried, commit-below, commit-fits, commit-stand, commit-said, commit-carried, refused-said, refused-carried, remove-stand, remove-said, remove-carried}
 use Rattle.transcripts.proofs.ReplayLaws.{ReplayLoop, replay-start, count-fits, places, ends, stops, line-room, fewer-left, replay-step}
 use Rattle.transcripts.proofs.records.replay_records.Statement.{statement}
 use Rattle.transcripts.proofs.records.replay_records.Tie as tie
@@ -87,12 +87,17 @@ replay-records-spec =
     (λ c. search (replay-step, delete-carried))
     (λ c. search needs)
     (λ c. search needs)
-    (λ c. search (commit-below, needs))
-    (λ c. search (commit-below, needs))
+    (λ c. search commit-fits)
+    (λ c. search commit-below)
     (λ c κs. search needs)
+    (λ c κs. search needs)
+    (λ c κs. search (line-room, refused-said))  -- by the first checks
+    (λ c. search (fewer-left, commit-stand))
+    (λ c. search (replay-step, refused-carried))
+    (λ c κs. search needs)
+    (λ c. search commit-fits)
+    (λ c. search commit-below)
     (λ c κs. search (line-room, commit-said))
-    (λ c. search (commit-below, needs))
-    (λ c. search (commit-below, needs))
     (λ c. search (fewer-left, commit-stand))
     (λ c. search (replay-step, commit-carried))
     (λ c. search needs)
