@@ -1,4 +1,4 @@
--- The desk in two parts, as a replay holds it, and what the rules of calls give. Assumes nothing.
+-- The desk of the tables and the slots, and what the rules of calls give. Assumes nothing.
 use mathlib.Core.Path.{_≡_}
 use mathlib.Core.List.{List}
 use Prim.Native.Nat.{ℕ, _<_}

@@ -54,7 +54,7 @@ fn done(len: usize, t: Tables, slots: [Session; 4]) -> Replayed
 
 // The records of a journal one after another, and the last line. The parts that a call gives back are stored in place. `n` is how many
 // records stand before `p`. The relays are a table by itself, and `t` has them where a call reads it: a row that is stored at a place in `t`
-// would have all of `t` copied for the calls that take it, and half of a journal's calls store a relay's row.
+// would have all of `t` copied for the calls that take it, and registers and heartbeats are many.
 pub(crate) fn replay_records(journal: &[u8], out: &mut [u8], start: usize) -> Replayed
     requires { ⌜ (areBytes (now journal) ≡ true) × (length (now journal) < 65536) × (start + length (printedFrom 0 (freshDesk programRate) (records v01 (now journal))) ≤ length (now out)) ⌝ }
     ensures { λ r. ⌜ Replays start (records v01 (now (journal .entry))) (now (out .entry)) r (now (out .exit)) ⌝ }
