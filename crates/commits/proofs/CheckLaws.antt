@@ -1,5 +1,5 @@
 -- The numbers that the checks of a commit give, and what its work answers by them. Assumes nothing.
-use mathlib.Core.Path.{_≡_, refl, sym, _∙_}
+use mathlib.Core.Path.{_≡_, refl, sym, _∙_, ap}
 use mathlib.Core.Bool.{Bool, true, false, not, cond, _&&_, and-false}
 use mathlib.Core.List.{List}
 use Prim.Native.Nat.{ℕ, _*_, _<_, _≤_, _^_}
@@ -17,25 +17,28 @@ use Rattle.rules.specs.declared.VolumeNo.{VolumeNo}
 use Rattle.rules.specs.declared.TokenNo.{TokenNo}
 use Rattle.rules.specs.declared.Placement.{Placement}
 use Rattle.rules.specs.declared.Volume.{Volume}
+use Rattle.rules.specs.declared.Entry.{Entry}
 use Rattle.rules.specs.declared.Token.{Token}
 use Rattle.rules.specs.declared.Relay.{Relay}
 use Rattle.rules.specs.declared.Session.{Session}
 use Rattle.rules.specs.declared.Tables.{Tables}
 use Rattle.rules.specs.declared.SlotOutcome.{SlotOutcome}
-use Rattle.rules.specs.Numbers.{BAD, NO-TOKEN, NO-PLACE}
+use Rattle.rules.specs.Numbers.{BAD, NO-TOKEN, NO-PLACE, SESSION}
 use Rattle.rules.specs.Tables.{staged, isVolume, isToken, tokenOf}
 use Rattle.rules.specs.Scope.{family}
 use Rattle.rules.specs.Outcome.{slotRefused}
 use Rattle.rules.specs.Commit.{stagedBytes, placeAll}
 use Rattle.rows.specs.Blank.{blankVolume, blankToken}
 use Rattle.commits.specs.declared.CommitOutcome.{CommitOutcome}
+use Rattle.commits.specs.declared.Verdict.{Verdict}
 use Rattle.commits.specs.Parts.{onCommit}
 use Rattle.commits.specs.Within.{entryWithin, volumeWithin, tokenWithin, relayWithin, sessionWithin, inLimits, commitWithin}
-use Rattle.commits.specs.Stored.{placedBy, StoredIf}
+use Rattle.commits.specs.Stored.{placedBy, StoredBy}
+use Rattle.commits.specs.Verdicts.{noPlan, Judged, JudgedIn, judged-refusal}
 use Rattle.rows.specs.Links.{rowIf}
 use Rattle.commits.specs.Early.{earlyToken, earlyVolume}
 use Rattle.commits.specs.Checks.{tokenFault, limitsFault, rowsFault, faultAt, faultBy, canCheck, rowsNumber, Ready, PlacedIf, RowsIf, Surveyed}
-use Rattle.commits.specs.CommitSteps.{kept-ok, relays-ok, volumes-ok, session-ok, puts-ok, count-ok, shards-found, parts-stopped, parts-stored}
+use Rattle.commits.specs.CommitSteps.{kept-ok, relays-ok, volumes-ok, session-ok, puts-ok, count-ok, shards-found, parts-stopped, parts-told, parts-stored, idle-stopped}
 
 -- in the function of all checks: r said that their sums fit
 module _ (volumes : List Volume) (relays : List Relay) (s : Session) (kept : ℕ) (r : Bool) (e : r ≡ canCheck volumes relays s kept) (g : not r ≡ false) where
@@ -139,43 +142,96 @@ fails-in a false c d e = rw (and-false a)
 fails-in a true false d e = rw (and-false (a && true))
 fails-in a true true d e = absurd (not-both refl e)
 
--- the answers of a commit, x: what was read of the entries, and whether they and the tokens are within their limits, r
-module _ (t : Tables) (s : Session) (ms : List Bool) (within : Bool) (kept rows : ℕ) (x : SlotOutcome) (r : Bool)
-    (w : Surveyed (s .volume) (staged s) (t .entries) ms within kept rows) (l : r ≡ (within && allOf tokenWithin (t .tokens)))
-    (running : s .token .0 ≡ 0 → ⊥) where
-  pub limits-refused : not r ≡ true → x ≡ slotRefused t s BAD → x ≡ commitWithin t s
+-- the verdict x of a commit: what was read of the entries, and whether they and the tokens are within their limits, r
+module _ (t : Tables) (s : Session) (x : Verdict) (ms : List Bool) (within : Bool) (kept rows : ℕ) (r : Bool)
+    (w : Surveyed (s .volume) (staged s) (t .entries) ms within kept rows) (l : r ≡ (within && allOf tokenWithin (t .tokens))) (running : s .token .0 ≡ 0 → ⊥) where
+  past-limits : not r ≡ true → commitWithin t s ≡ slotRefused t s BAD
   unfolding commitWithin inLimits
-  limits-refused g q =
+  past-limits g =
       let n : (within && allOf tokenWithin (t .tokens)) ≡ false = sym l ∙ not-true r g in
       let m : (allOf entryWithin (t .entries) && allOf tokenWithin (t .tokens)) ≡ false = rw (w .limits) at n in
-      q
-      ∙ sym
-      (rw (
+      rw (
         some-given (s .token .0) running,
         fails-in (sessionWithin s && allOf volumeWithin (t .volumes)) (allOf entryWithin (t .entries)) (allOf tokenWithin (t .tokens)) (allOf relayWithin (t .relays)) m,
-      ))
+      )
 
   module _ (g : not r ≡ false) (there : Bool) (j : ℕ) (k : Token) (number : ℕ) (f : find (isToken (s .token)) (t .tokens) ≡ cond there (hit j k) miss)
       (e : number ≡ rowsNumber (t .clock) (t .rate) (t .volumes) (t .tokens) (t .relays) s (rowIf there k) kept rows) where
     both-in : (within && allOf tokenWithin (t .tokens)) ≡ true
     both-in = sym l ∙ not-false r g
 
-    pub check-refused : (number ≡ 0 → ⊥) → x ≡ slotRefused t s number → x ≡ commitWithin t s
-    unfolding tokenOf
-    check-refused n q =
-        q
-        ∙ sym
-        (parts-stopped t s ms within kept rows there j k number running (and-left within (allOf tokenWithin (t .tokens)) both-in)
-        (and-right within (allOf tokenWithin (t .tokens)) both-in) w f e n)
+    entries-in : within ≡ true
+    entries-in = and-left within (allOf tokenWithin (t .tokens)) both-in
 
-    pub check-passed : number ≡ 0 → (i : ℕ) (places : List Placement) (rs : List Relay)
-        → RowsIf number (t .clock) (t .volumes) (t .relays) s i (take (s .count) places) rs → i < 8 → (o : CommitOutcome)
-        → StoredIf (t .volumes) (t .entries) (t .tokens) ms k s i places rs o → x ≡ onCommit t o → x ≡ commitWithin t s
+    tokens-in : allOf tokenWithin (t .tokens) ≡ true
+    tokens-in = and-right within (allOf tokenWithin (t .tokens)) both-in
+
+    refusal-judged : (number ≡ 0 → ⊥) → x ≡ record { number = number; plan = noPlan } → Judged t s (commitWithin t s) x
     unfolding tokenOf
-    check-passed z i places rs a h o b q =
-        q
-        ∙ parts-stored t s ms within kept rows there j k number running (and-left within (allOf tokenWithin (t .tokens)) both-in)
-        (and-right within (allOf tokenWithin (t .tokens)) both-in) w f e z i places rs a o h b
+    refusal-judged n q =
+        judged-refusal t s (commitWithin t s) x number q n (parts-stopped t s ms within kept rows there j k number running entries-in tokens-in w f e n)
+
+    passed-judged : number ≡ 0 → (i : ℕ) (places : List Placement) (rs : List Relay)
+        → RowsIf number (t .clock) (t .volumes) (t .relays) s i (take (s .count) places) rs → i < 8 → j < 32
+        → x ≡ record { number = 0; plan = record { volume = i; token = j; places = places; relays = rs; marks = ms } } → Judged t s (commitWithin t s) x
+    unfolding tokenOf
+    passed-judged z i places rs a h u q =
+        let answers = parts-told t s ms within kept rows there j k number running entries-in tokens-in w f e z i places rs a in
+        rw q
+        (record {
+          told = sym answers;
+          refused = λ n. absurd (n refl);
+          none = λ n. absurd (n refl);
+          stored = λ y o b. parts-stored t s ms within kept rows there j k number running entries-in tokens-in w f e z i places rs a o h u b;
+        })
+
+-- the same over the parts that are read
+module _ (clock rate : ℕ) (volumes : List Volume) (entries : List Entry) (tokens : List Token) (relays : List Relay) (s : Session) (x : Verdict) where
+  pub in-idle : s .token .0 ≡ 0 → x ≡ record { number = SESSION; plan = noPlan } → JudgedIn clock rate volumes entries tokens relays s x
+  in-idle i q =
+      record { judged = λ t ec er ev ee et el. judged-refusal t s (commitWithin t s) x SESSION q (λ z. absurd (omega (arith, z))) (idle-stopped t s i) }
+
+  module _ (ms : List Bool) (within : Bool) (kept rows : ℕ) (r : Bool) (w : Surveyed (s .volume) (staged s) entries ms within kept rows)
+      (l : r ≡ (within && allOf tokenWithin tokens)) (running : s .token .0 ≡ 0 → ⊥) where
+    pub in-limits : not r ≡ true → x ≡ record { number = BAD; plan = noPlan } → JudgedIn clock rate volumes entries tokens relays s x
+    in-limits g q =
+        record {
+          judged =
+              λ t ec er ev ee et el.
+              judged-refusal t s (commitWithin t s) x BAD q (λ z. absurd (omega (arith, z))) (past-limits t s x ms within kept rows r (rw ee w) (rw et l) running g);
+        }
+
+    module _ (g : not r ≡ false) (there : Bool) (j : ℕ) (k : Token) (number : ℕ) (f : find (isToken (s .token)) tokens ≡ cond there (hit j k) miss)
+        (e : number ≡ rowsNumber clock rate volumes tokens relays s (rowIf there k) kept rows) where
+      pub in-refused : (number ≡ 0 → ⊥) → x ≡ record { number = number; plan = noPlan } → JudgedIn clock rate volumes entries tokens relays s x
+      in-refused n q =
+          record {
+            judged =
+                λ t ec er ev ee et el.
+                refusal-judged t s x ms within kept rows r (rw ee w) (rw et l) running g there j k number (rw et f) (rw (ec, er, ev, et, el) e) n q;
+          }
+
+      pub in-passed : number ≡ 0 → (i : ℕ) (places : List Placement) (rs : List Relay) → RowsIf number clock volumes relays s i (take (s .count) places) rs → i < 8
+          → j < 32 → x ≡ record { number = 0; plan = record { volume = i; token = j; places = places; relays = rs; marks = ms } }
+          → JudgedIn clock rate volumes entries tokens relays s x
+      in-passed z i places rs a h u q =
+          record {
+            judged =
+                λ t ec er ev ee et el.
+                passed-judged t s x ms within kept rows r (rw ee w) (rw et l) running g there j k number (rw et f) (rw (ec, er, ev, et, el) e) z i places rs
+                (rw (ec, ev, el) a) h u q;
+          }
+
+-- what a commit answers by its verdict x
+module _ (t : Tables) (s : Session) (x : Verdict) (j : JudgedIn (t .clock) (t .rate) (t .volumes) (t .entries) (t .tokens) (t .relays) s x) (v : SlotOutcome) where
+  verdict : Judged t s (commitWithin t s) x
+  verdict = j .judged t refl refl refl refl refl refl
+
+  pub verdict-refused : (x .number ≡ 0 → ⊥) → v ≡ slotRefused t s (x .number) → v ≡ commitWithin t s
+  verdict-refused n q = q ∙ sym (verdict .refused n)
+
+  pub verdict-stored : x .number ≡ 0 → (o : CommitOutcome) → StoredBy t s (x .plan) o → v ≡ onCommit t o → v ≡ commitWithin t s
+  verdict-stored z o h q = q ∙ verdict .stored z o h
 
 -- the first checks: no volume, or at its row; and so for the token
 module _ (clock : ℕ) (s : Session) where

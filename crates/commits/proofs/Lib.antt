@@ -3,7 +3,6 @@ pub mod QuotaLaws
 pub mod PlaceLoops
 pub mod SizeLaws
 pub mod SurveyLaws
-pub mod ListTally
 pub mod CommitLaws
 pub mod CheckLaws
 pub mod StoreLaws

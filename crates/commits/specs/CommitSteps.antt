@@ -10,7 +10,7 @@ use lib.Dec.{eqb, leb}
 use lib.ListN.{take, getD}
 use Rattle.lists.specs.Lists.{Hit, hit, miss, find, allOf, countIf}
 use Rattle.lists.specs.BoolLaws.{and-left, and-right, and-both}
-use Rattle.lists.specs.SearchLaws.{row-passes}
+use Rattle.lists.specs.SearchLaws.{row-passes, found-at}
 use Rattle.lists.specs.AnswerLaws.{none-given, some-given}
 use Rattle.rules.specs.declared.VolumeNo.{VolumeNo}
 use Rattle.rules.specs.declared.Placement.{Placement}
@@ -22,7 +22,7 @@ use Rattle.rules.specs.declared.Tables.{Tables}
 use Rattle.rules.specs.declared.SlotOutcome.{SlotOutcome}
 use Rattle.rules.specs.Limits.{putRows, lastVersion}
 use Rattle.rules.specs.Numbers.{BAD, WINDOW, STATE, CONFLICT, SPENT, QUOTA, SIZE, ROOM, RENT, SESSION}
-use Rattle.rules.specs.Tables.{staged, usedEntry, freeVolume, isVolume, volumeOf, tokenOf}
+use Rattle.rules.specs.Tables.{staged, usedEntry, freeVolume, isVolume, isToken, volumeOf, tokenOf}
 use Rattle.rules.specs.Scope.{inWindow, family}
 use Rattle.rules.specs.Sound.{shardsFit}
 use Rattle.rules.specs.Outcome.{slotRefused}
@@ -30,12 +30,12 @@ use Rattle.rules.specs.VolumeCalls.{isActive}
 use Rattle.rules.specs.Laws.ApartLaws.{used-not-free, other-part}
 use Rattle.rules.specs.Laws.NumberLaws.{numbered-used, numbered-eq, found-passes}
 use Rattle.rules.specs.Commit.{Placed, noPlace, placed, stagedBytes, isReplaced, isNewPath, passesQuotas, passesSize, passesRoom, belowRent, placeAll, committed, commitPlaced, commitLimits, commitToken, commitVolume}
-use Rattle.rows.specs.Blank.{blankVolume}
+use Rattle.rows.specs.Blank.{blankVolume, blankToken}
 use Rattle.entries.specs.MarkLaws.{marked-keep}
 use Rattle.commits.specs.declared.CommitOutcome.{CommitOutcome}
 use Rattle.commits.specs.Parts.{onCommit}
 use Rattle.commits.specs.Within.{volumeWithin, entryWithin, tokenWithin, relayWithin, putWithin, sessionWithin, inLimits, commitWithin}
-use Rattle.commits.specs.Stored.{keptBytes, StoredAs, canStore, StoredIf}
+use Rattle.commits.specs.Stored.{keptBytes, StoredAs, canStore, StoredBy}
 use Rattle.rows.specs.Links.{rowIf}
 use Rattle.commits.specs.Checks.{tokenFault, limitsFault, orElse, placeFault, placingOf, rowsFault, faultAt, faultBy, canCheck, rowsNumber, RowsIf, Surveyed}
 use Rattle.commits.specs.CommitSums.{size-passes, rent-passes, staged-small}
@@ -222,10 +222,12 @@ module _ (clock rate : ℕ) (volumes : List Volume) (tokens : List Token) (relay
         last-passes false false false false q = refl
 
     -- so the puts can be stored
-    pub passed-store : i < 8 → allOf tokenWithin tokens ≡ true → canStore volumes tokens s i ≡ true
+    pub passed-store : i < 8 → (j : ℕ) → j < 32 → allOf tokenWithin tokens ≡ true → canStore volumes tokens s i j ≡ true
     unfolding canStore
-    passed-store h w =
-        and-both (and-both (and-both (lt-ltb i 8 h) (lt-ltb (v .version) lastVersion passed-version)) (session-ok volumes relays s kept all-parts)) w
+    passed-store h j u w =
+        and-both
+        (and-both (and-both (and-both (lt-ltb i 8 h) (lt-ltb (v .version) lastVersion passed-version)) (session-ok volumes relays s kept all-parts)) w)
+        (lt-ltb j 32 u)
 
 -- the answer, where ms are the marks of the entries that are replaced
 stores-answer : (t : Tables) (s : Session) (ms : List Bool) (i : ℕ) (v : Volume) (k : Token) (places : List Placement) (rs : List Relay) (o : CommitOutcome)
@@ -300,44 +302,26 @@ module _ (t : Tables) (s : Session) (ms : List Bool) (within : Bool) (kept rows 
         let none = passed-rows (t .clock) (t .rate) (t .volumes) (t .tokens) (t .relays) s there k kept rows number e z i (take (s .count) places) rs r in
         rw (same-parts, ok, r .volume z, f, yes) (at-rows ok i row (r .volume z) ∙ rw (none, r .placing z))
 
-    pub parts-stored : (o : CommitOutcome) → i < 8 → StoredIf (t .volumes) (t .entries) (t .tokens) ms k s i places rs o → onCommit t o ≡ commitWithin t s
-    parts-stored o h g =
+    -- and so it answers 0
+    pub parts-told : commitWithin t s .answer .number ≡ 0
+    unfolding commitPlaced committed
+    parts-told = rw (runs, passes-checked)
+
+    token-row : getD (t .tokens) j blankToken ≡ k
+    unfolding tokenOf
+    token-row =
+        let yes = passed-there (t .clock) (t .rate) (t .volumes) (t .tokens) (t .relays) s there k kept rows number e z i (take (s .count) places) rs r in
+        found-at (isToken (s .token)) (t .tokens) j k (f ∙ rw yes) blankToken
+
+    pub parts-stored : (o : CommitOutcome) → i < 8 → j < 32
+        → StoredBy t s (record { volume = i; token = j; places = places; relays = rs; marks = ms }) o → onCommit t o ≡ commitWithin t s
+    parts-stored o h u g =
         let m : ms ≡ map (isReplaced (row .no) (staged s)) (t .entries) = rw (number-found (t .volumes) (s .volume) i row (r .volume z)) (w .replaced) in
         let can-store =
-        passed-store (t .clock) (t .rate) (t .volumes) (t .tokens) (t .relays) s there k kept rows number e z i (take (s .count) places) rs r h tokens-in in
-        stores-answer t s ms i row k (take (s .count) places) rs o m (g .stored can-store) ∙ sym passes-checked ∙ sym runs
+        passed-store (t .clock) (t .rate) (t .volumes) (t .tokens) (t .relays) s there k kept rows number e z i (take (s .count) places) rs r h j u tokens-in in
+        stores-answer t s ms i row k (take (s .count) places) rs o m (rw token-row at (g .stored can-store)) ∙ sym passes-checked ∙ sym runs
 
 -- 19
 pub idle-stopped : (t : Tables) (s : Session) → s .token .0 ≡ 0 → commitWithin t s ≡ slotRefused t s SESSION
 unfolding commitWithin
 idle-stopped t s e = rw (none-given (s .token .0) e)
-
--- the same of a running session, where the tables and the session are within the limits
-module _ (t : Tables) (s : Session) (ms : List Bool) (within : Bool) (kept rows : ℕ) (there : Bool) (j : ℕ) (k : Token) (number : ℕ)
-    (running : s .token .0 ≡ 0 → ⊥) (ok : inLimits t s ≡ true) (w : Surveyed (s .volume) (staged s) (t .entries) ms within kept rows)
-    (f : tokenOf (s .token) t ≡ cond there (hit j k) miss)
-    (e : number ≡ rowsNumber (t .clock) (t .rate) (t .volumes) (t .tokens) (t .relays) s (rowIf there k) kept rows) where
-  abbrev three : Bool
-  three = sessionWithin s && allOf volumeWithin (t .volumes) && allOf entryWithin (t .entries)
-
-  four-in : (three && allOf tokenWithin (t .tokens)) ≡ true
-  unfolding inLimits
-  four-in = and-left (three && allOf tokenWithin (t .tokens)) (allOf relayWithin (t .relays)) ok
-
-  tokens-in : allOf tokenWithin (t .tokens) ≡ true
-  tokens-in = and-right three (allOf tokenWithin (t .tokens)) four-in
-
-  entries-in : within ≡ true
-  entries-in =
-      w .limits
-      ∙ and-right (sessionWithin s && allOf volumeWithin (t .volumes)) (allOf entryWithin (t .entries)) (and-left three (allOf tokenWithin (t .tokens)) four-in)
-
-  -- a refusal by the number of the checks
-  pub commit-stopped : (number ≡ 0 → ⊥) → commitWithin t s ≡ slotRefused t s number
-  commit-stopped = parts-stopped t s ms within kept rows there j k number running entries-in tokens-in w f e
-
-  -- and where all pass, what was stored: i, `places` and `rs` are what the checks gave
-  pub commit-stored : number ≡ 0 → (i : ℕ) (places : List Placement) (rs : List Relay)
-      → RowsIf number (t .clock) (t .volumes) (t .relays) s i (take (s .count) places) rs → (o : CommitOutcome) → i < 8
-      → StoredIf (t .volumes) (t .entries) (t .tokens) ms k s i places rs o → onCommit t o ≡ commitWithin t s
-  commit-stored z i places rs r o h g = parts-stored t s ms within kept rows there j k number running entries-in tokens-in w f e z i places rs r o h g

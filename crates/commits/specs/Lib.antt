@@ -2,10 +2,10 @@ pub mod Charge
 pub mod Parts
 pub mod Within
 pub mod Stored
+pub mod Verdicts
 pub mod Checks
 pub mod WithinLaws
 pub mod CommitSums
 pub mod CommitSteps
-pub mod NewSurvey
 pub mod SurveyedLaws
 pub mod Early

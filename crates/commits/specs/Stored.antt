@@ -14,18 +14,21 @@ use Rattle.rules.specs.declared.Token.{Token}
 use Rattle.rules.specs.declared.Relay.{Relay}
 use Rattle.rules.specs.declared.Put.{Put}
 use Rattle.rules.specs.declared.Session.{Session}
-use Rattle.rules.specs.Limits.{volumeRows, lastVersion}
+use Rattle.rules.specs.declared.Tables.{Tables}
+use Rattle.rules.specs.Limits.{volumeRows, tokenRows, lastVersion}
 use Rattle.rules.specs.Numbers.{BAD}
 use Rattle.rules.specs.Fresh.{freshSession}
 use Rattle.rules.specs.Tables.{withVersion}
 use Rattle.rules.specs.Scope.{family}
 use Rattle.rules.specs.Relays.{lightened}
 use Rattle.rules.specs.Rent.{sizeOf}
-use Rattle.rules.specs.Outcome.{refusal, success}
+use Rattle.rules.specs.Outcome.{success, slotRefused}
 use Rattle.rules.specs.Commit.{Placed, noPlace, placed, isKept, storeAll, charged, stagedBytes}
-use Rattle.rows.specs.Blank.{blankVolume}
+use Rattle.rows.specs.Blank.{blankVolume, blankToken}
 use Rattle.entries.specs.Marks.{marked}
 use Rattle.commits.specs.declared.CommitOutcome.{CommitOutcome}
+use Rattle.commits.specs.declared.Plan.{Plan}
+use Rattle.commits.specs.Parts.{onCommit}
 use Rattle.commits.specs.Within.{tokenWithin, sessionWithin}
 
 -- what placing the puts came to: the placements, one for each put, and the relay table after them
@@ -47,15 +50,15 @@ pub record StoredAs (volumes : List Volume) (entries : List Entry) (tokens : Lis
   pub lighter : o .relays ≡ map (lightened volumes (marked marks entries)) rs
   pub freed : o .session ≡ freshSession
 
--- what storing rests on: the volume's row i is in the table, its version is not the last, and the session and the tokens are within their limits
-unfoldable pub canStore : List Volume → List Token → Session → ℕ → Bool
-canStore volumes tokens s i =
-    ltb i volumeRows && ltb (getD volumes i blankVolume .version) lastVersion && sessionWithin s && allOf tokenWithin tokens
+-- what storing rests on: the volume's row i and the token's row j are in the tables, the volume's version is not the last, and the session and the tokens
+-- are within their limits
+unfoldable pub canStore : List Volume → List Token → Session → ℕ → ℕ → Bool
+canStore volumes tokens s i j =
+    ltb i volumeRows && ltb (getD volumes i blankVolume .version) lastVersion && sessionWithin s && allOf tokenWithin tokens && ltb j tokenRows
 
--- what storing leaves: the session's puts stored by the token k, the first of the places for each; or 1 and nothing changed, with the relays `rs`
-pub record StoredIf (volumes : List Volume) (entries : List Entry) (tokens : List Token) (marks : List Bool) (k : Token) (s : Session) (i : ℕ)
-    (places : List Placement) (rs : List Relay) (o : CommitOutcome) : Type 0 where
-  pub stored : canStore volumes tokens s i ≡ true
-      → StoredAs volumes entries tokens marks i (getD volumes i blankVolume) k (take (s .count) (s .puts)) (take (s .count) places) rs o
-  pub kept : canStore volumes tokens s i ≡ false
-      → o ≡ record { answer = refusal BAD; volumes = volumes; entries = entries; tokens = tokens; relays = rs; session = s }
+-- what storing by a plan leaves: the session's puts stored, the first of the plan's places for each; or 1 and nothing changed
+pub record StoredBy (t : Tables) (s : Session) (x : Plan) (o : CommitOutcome) : Type 0 where
+  pub stored : canStore (t .volumes) (t .tokens) s (x .volume) (x .token) ≡ true
+      → StoredAs (t .volumes) (t .entries) (t .tokens) (x .marks) (x .volume) (getD (t .volumes) (x .volume) blankVolume)
+      (getD (t .tokens) (x .token) blankToken) (take (s .count) (s .puts)) (take (s .count) (x .places)) (x .relays) o
+  pub kept : canStore (t .volumes) (t .tokens) s (x .volume) (x .token) ≡ false → onCommit t o ≡ slotRefused t s BAD

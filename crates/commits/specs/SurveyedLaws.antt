@@ -1,13 +1,10 @@
--- What a commit reads of the entries: the bytes that stay, the puts of new paths, and what the lists of the entries' volumes and sizes tell where the puts
--- replace no entry. Assumes nothing.
+-- What a commit reads of the entries: the bytes that stay, and the puts of new paths. Assumes nothing.
 use mathlib.Core.Path.{_≡_, refl, sym, _∙_}
-use mathlib.Core.Bool.{Bool, true, false, _&&_, cond, not, and-true}
+use mathlib.Core.Bool.{Bool, true, false, _&&_, cond, not}
 use mathlib.Core.List.{List, [], _∷_, map}
-use Prim.Native.Nat.{ℕ, suc, _+_, _*_, _<_, _≤_, _^_, min}
+use Prim.Native.Nat.{ℕ, suc, _+_, _*_, _<_, _≤_, _^_}
 use native.Mathlib.Omega.{arith}
-use borrow.Author.Tests.{leb-true}
-use lib.Dec.{eqb}
-use lib.ListN.{length, take, getD, replicate, length-take, length-map}
+use lib.ListN.{length, take, getD, length-map}
 use Rattle.lists.specs.Lists.{allOf, anyOf, countIf, keep, sumOf}
 use Rattle.lists.specs.Bytes.{sameBytes}
 use Rattle.lists.specs.ByteLaws.{same-symmetric}
@@ -19,19 +16,14 @@ use Rattle.text.specs.Text.{textBytes}
 use Rattle.rules.specs.declared.VolumeNo.{VolumeNo}
 use Rattle.rules.specs.declared.Entry.{Entry}
 use Rattle.rules.specs.declared.Put.{Put}
-use Rattle.rules.specs.Limits.{sizeLimit}
-use Rattle.rules.specs.Tables.{given, numbered, usedEntry, inVolume, isEntry, isPut}
+use Rattle.rules.specs.Tables.{usedEntry, inVolume, isEntry, isPut}
 use Rattle.rules.specs.Rent.{sizeOf}
-use Rattle.rules.specs.Laws.ApartLaws.{used-not-free, other-part}
-use Rattle.rules.specs.Laws.NumberLaws.{numbered-used}
 use Rattle.rules.specs.Commit.{isReplaced, isKept, isNewPath}
 use Rattle.rows.specs.Blank.{blankEntry, blankPut}
 use Rattle.entries.specs.Marks.{isSet}
-use Rattle.entries.specs.EntryLists.{ownerOf}
 use Rattle.commits.specs.Within.{entryWithin}
 use Rattle.commits.specs.Stored.{keptBytes}
 use Rattle.commits.specs.Checks.{leftBytes, Surveyed}
-use Rattle.commits.specs.NewSurvey.{rowWithin, rowBytes, listsWithin, listsBytes, findingsNew}
 
 -- the bytes of the entries that stay: what each entry adds
 abbrev keptSize : VolumeNo → List Put → Entry → ℕ
@@ -96,51 +88,3 @@ module _ (n : VolumeNo) (count : ℕ) (puts : List Put) (es : List Entry) (ms : 
       → Surveyed n (take count puts) es ms within kept rows
   survey-of e f =
       record { replaced = e; limits = a; stays = λ t. b ∙ left-kept n (take count puts) es ms e (sym a ∙ t); small = c; room = f }
-
--- a row of the lists adds no more than an entry may have
-pub row-most : (n owner size : ℕ) → rowBytes n owner size ≤ 2 ^ 36
-row-most n owner size = go (rowWithin owner size && numbered n owner) refl
-  where
-    go : (a : Bool) → (rowWithin owner size && numbered n owner) ≡ a → cond a size 0 ≤ 2 ^ 36
-    go false q = omega arith
-    go true q =
-        let u = numbered-used n owner (and-right (rowWithin owner size) (numbered n owner) q) in
-        leb-true size sizeLimit (other-part (eqb owner 0) _ (used-not-free owner u) (and-left (rowWithin owner size) (numbered n owner) q))
-
-lists-most : (n : ℕ) (os zs : List ℕ) → listsBytes n os zs ≤ length os * 2 ^ 36
-unfolding listsBytes
-lists-most n [] zs = omega arith
-lists-most n (o ∷ os) [] = omega arith
-lists-most n (o ∷ os) (z ∷ zs) = omega (arith, row-most n o z, lists-most n os zs)
-
--- the lists of a table's owners and sizes tell what the table does
-lists-within : (es : List Entry) → listsWithin (map ownerOf es) (map sizeOf es) ≡ allOf entryWithin es
-unfolding listsWithin allOf entryWithin
-lists-within [] = refl
-lists-within (e ∷ es) = rw (lists-within es)
-
-lists-left : (n : VolumeNo) (es : List Entry) → listsBytes (n .0) (map ownerOf es) (map sizeOf es) ≡ leftBytes n (replicate (length es) false) es
-unfolding listsBytes leftBytes entryWithin
-lists-left n [] = refl
-lists-left n (e ∷ es) = rw (lists-left n es, and-true (rowWithin (ownerOf e) (e .size) && inVolume n e))
-
-lists-used : (es : List Entry) → countIf given (map ownerOf es) ≡ countIf usedEntry es
-unfolding countIf
-lists-used [] = refl
-lists-used (e ∷ es) = rw (lists-used es)
-
--- where the puts replace no entry of the table, the lists of its owners and sizes tell what a commit reads of it
-pub surveyed-new : (n : VolumeNo) (puts : List Put) (count : ℕ) (es : List Entry) → length es ≡ 64 → length puts ≡ 8
-    → map (isReplaced n (take count puts)) es ≡ replicate 64 false
-    → Surveyed n (take count puts) es (findingsNew n count (map ownerOf es) (map sizeOf es) .marks) (findingsNew n count (map ownerOf es) (map sizeOf es) .within)
-    (findingsNew n count (map ownerOf es) (map sizeOf es) .kept) (findingsNew n count (map ownerOf es) (map sizeOf es) .rows)
-unfolding findingsNew anyOf
-surveyed-new n puts count es l m e =
-    let none : anyOf isSet (map (isReplaced n (take count puts)) es) ≡ false = rw e in
-    let new = all-new n es (take count puts) none in
-    let bytes : listsBytes (n .0) (map ownerOf es) (map sizeOf es) ≡ leftBytes n (replicate 64 false) es = rw l at (lists-left n es) in
-    rw (length-map es ownerOf, length-map es sizeOf, l)
-    (survey-of n count puts es (replicate 64 false) (listsWithin (map ownerOf es) (map sizeOf es)) (listsBytes (n .0) (map ownerOf es) (map sizeOf es))
-    (countIf given (map ownerOf es) + min count 8) (lists-within es) bytes
-    (omega (arith, lists-most (n .0) (map ownerOf es) (map sizeOf es), length-map es ownerOf)) (sym e)
-    (omega (arith, lists-used es, new, length-take count puts)))

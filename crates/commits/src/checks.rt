@@ -11,12 +11,11 @@ ghost use Rattle.rows.specs.Blank.{blankVolume};
 ghost use Rattle.rows.specs.Links.{rowIf};
 ghost use Rattle.commits.specs.Early.{earlyToken, earlyNumber};
 ghost use Rattle.commits.specs.Checks.{tokenFault, limitsFault, rowsFault, rowsNumber, Ready, PlacedIf, RowsIf};
-use super::Checked;
-use super::Places;
 use super::family::Family;
 use super::family::family_of;
 use super::family::passes_cap;
 use super::family::passes_quotas;
+use super::placings::Places;
 use super::placings::no_places;
 use super::placings::place_all;
 use super::sizes::below_rent;
@@ -44,6 +43,13 @@ use rules::numbers::SIZE;
 use rules::numbers::SPENT;
 use rules::numbers::STATE;
 use rules::numbers::WINDOW;
+
+// What the checks of a running session's commit give: the number of the refusal, or 0; where it is 0, the row of the volume, and the placements.
+pub(crate) struct Checked {
+    pub number: u32,
+    pub row: usize,
+    pub p: Places,
+}
 
 fn failed(number: u32, relays: [Relay; 32]) -> Checked
     ensures { λ r. ⌜ (r .number ≡ number) × (r .row < 8) ⌝ }
@@ -172,7 +178,7 @@ fn rows_check(
 
 // The checks of a running session's commit, from the session's limits on. `k` is the row of its token, if it is there; `kept` and `rows` are what was
 // read of the entries.
-pub fn check_rows(
+pub(crate) fn check_rows(
     clock: u64,
     rate: u16,
     volumes: [Volume; 8],

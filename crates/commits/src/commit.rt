@@ -6,17 +6,19 @@ ghost use lib.ListN.{getD, take};
 ghost use Rattle.lists.specs.Lists.{hit, miss, find, allOf};
 ghost use Rattle.rules.specs.Limits.{lastVersion};
 ghost use Rattle.rules.specs.Tables.{isToken};
-ghost use Rattle.rows.specs.Blank.{blankVolume};
+ghost use Rattle.rows.specs.Blank.{blankVolume, blankToken};
 ghost use Rattle.commits.specs.Parts.{onCommit};
 ghost use Rattle.commits.specs.Within.{tokenWithin, putWithin, commitWithin};
 ghost use Rattle.rows.specs.Links.{rowIf};
 ghost use Rattle.commits.specs.Checks.{rowsNumber, RowsIf};
-ghost use Rattle.commits.specs.Stored.{StoredAs, StoredIf};
-use super::Checked;
+ghost use Rattle.commits.specs.Stored.{StoredAs, StoredBy};
+ghost use Rattle.commits.specs.Verdicts.{noPlan, JudgedIn};
 use super::CommitOutcome;
-use super::Places;
+use super::Plan;
+use super::Verdict;
 use super::answers::refuse;
 use super::charge::charge;
+use super::checks::Checked;
 use super::checks::check_rows;
 use super::sizes::staged_bytes;
 use super::surveys::survey;
@@ -42,16 +44,15 @@ fn store(
     volumes: [Volume; 8],
     entries: [Entry; 64],
     tokens: [Token; 32],
-    i: usize,
-    k: Token,
     s: Session,
-    p: Places,
-    marks: [bool; 64],
+    plan: Plan,
 ) -> CommitOutcome
-    requires { ⌜ (i < 8) × (getD volumes i blankVolume .version < lastVersion) × (s .count ≤ 8) × (allOf putWithin (take (s .count) (s .puts)) ≡ true) × (allOf tokenWithin tokens ≡ true) ⌝ }
-    ensures { λ r. ⌜ StoredAs volumes entries tokens marks i (getD volumes i blankVolume) k (take (s .count) (s .puts)) (take (s .count) (p .places)) (p .rows) r ⌝ }
+    requires { ⌜ (plan .volume < 8) × (plan .token < 32) × (getD volumes (plan .volume) blankVolume .version < lastVersion) × (s .count ≤ 8) × (allOf putWithin (take (s .count) (s .puts)) ≡ true) × (allOf tokenWithin tokens ≡ true) ⌝ }
+    ensures { λ r. ⌜ StoredAs volumes entries tokens (plan .marks) (plan .volume) (getD volumes (plan .volume) blankVolume) (getD tokens (plan .token) blankToken) (take (s .count) (s .puts)) (take (s .count) (plan .places)) (plan .relays) r ⌝ }
 {
+    let marks = plan.marks;
     let replaces = any_mark(&marks);
+    let i = plan.volume;
     let v = volumes[i];
     let version = v.version + 1;
     let mut next = v;
@@ -60,12 +61,14 @@ fn store(
     volumes_after[i] = next;
     let puts = s.puts;
     let bytes = staged_bytes(puts, s.count);
+    let j = plan.token;
+    let k = tokens[j];
     let tokens_after = charge(tokens, k, bytes);
     let answer = rules::success(version as u64);
     let session = rules::fresh_session();
     let n = v.no;
-    let places = p.places;
-    let loaded = p.rows;
+    let places = plan.places;
+    let loaded = plan.relays;
     let mut entries_after = entries;
     let mut relays_after = loaded;
     if replaces {
@@ -89,34 +92,19 @@ fn store(
     }
 }
 
-// The puts are stored as the checks placed them, the bytes are charged to the token `k` and its ancestors, replaced entries, which are marked, give their
-// room back, and the volume has a new version. 1, with the relays of `c` and the rest as it came, where the row is past the volumes, the version is at
+// A commit that its checks do not refuse is stored by their plan: the puts as they were placed, the bytes charged to the token and its ancestors,
+// the room of replaced entries given back, and a new version of the volume. 1, with all as it came, where a row is past its table, the version is at
 // its end, or the session or the tokens are past their limits.
-pub fn store_rows(
-    volumes: [Volume; 8],
-    entries: [Entry; 64],
-    tokens: [Token; 32],
-    k: Token,
-    s: Session,
-    c: Checked,
-    marks: [bool; 64],
-) -> CommitOutcome
-    ensures { λ r. ⌜ StoredIf volumes entries tokens marks k s (c .row) (c .p .places) (c .p .rows) r ⌝ }
+pub fn store_commit(t: Tables, s: Session, plan: Plan) -> CommitOutcome
+    ensures { λ r. ⌜ StoredBy t s plan r ⌝ }
 {
-    let p = c.p;
-    if !can_store(volumes, tokens, s, c.row) {
-        let relays = p.rows;
-        let answer = rules::refusal(BAD);
-        return CommitOutcome {
-            answer,
-            volumes,
-            entries,
-            tokens,
-            relays,
-            session: s,
-        };
+    let volumes = t.volumes;
+    let tokens = t.tokens;
+    if !can_store(volumes, tokens, s, plan.volume, plan.token) {
+        return refuse(t, s, BAD);
     }
-    store(volumes, entries, tokens, c.row, k, s, p, marks)
+    let entries = t.entries;
+    store(volumes, entries, tokens, s, plan)
 }
 
 // The row of a token, with its place, or that it has none.
@@ -127,7 +115,7 @@ pub(crate) struct TokenRow {
 }
 
 fn token_row(tokens: [Token; 32], n: TokenNo) -> TokenRow
-    ensures { λ r. ⌜ find (isToken n) tokens ≡ cond (r .there) (hit (r .at) (r .row)) miss ⌝ }
+    ensures { λ r. ⌜ (find (isToken n) tokens ≡ cond (r .there) (hit (r .at) (r .row)) miss) × (r .at < 32) ⌝ }
 {
     let Found::At(j) = find_token(tokens, n) else {
         let none = tokens[0];
@@ -163,7 +151,7 @@ fn check_found(
     kept: u64,
     rows: usize,
 ) -> RowChecks
-    ensures { λ r. ⌜ (find (isToken (s .token)) tokens ≡ cond (r .there) (hit (r .at) (r .row)) miss) × (r .c .number ≡ rowsNumber clock rate volumes tokens relays s (rowIf (r .there) (r .row)) kept rows) × RowsIf (r .c .number) clock volumes relays s (r .c .row) (take (s .count) (r .c .p .places)) (r .c .p .rows) × (r .c .row < 8) ⌝ }
+    ensures { λ r. ⌜ (find (isToken (s .token)) tokens ≡ cond (r .there) (hit (r .at) (r .row)) miss) × (r .c .number ≡ rowsNumber clock rate volumes tokens relays s (rowIf (r .there) (r .row)) kept rows) × RowsIf (r .c .number) clock volumes relays s (r .c .row) (take (s .count) (r .c .p .places)) (r .c .p .rows) × (r .c .row < 8) × (r .at < 32) ⌝ }
 {
     let n = s.token;
     let x = token_row(tokens, n);
@@ -188,29 +176,78 @@ fn check_found(
     }
 }
 
+// The verdict on a commit that is refused with the number: there is no plan.
+pub fn refusing(number: u32) -> Verdict
+    ensures { λ r. ⌜ r ≡ record { number = number; plan = noPlan } ⌝ }
+{
+    let place = rules::fresh_placement();
+    let places = [place; 8];
+    let relay = rules::fresh_relay();
+    let relays = [relay; 32];
+    let marks = [false; 64];
+    let plan = Plan {
+        volume: 0,
+        token: 0,
+        places,
+        relays,
+        marks,
+    };
+    Verdict { number, plan }
+}
+
+// The checks of a commit, over the parts of the tables that they read: the number of the refusal, or 0 with the plan to store it by. No table
+// moves, so a caller that asks first hands the tables to the storing only for a commit that is not refused.
+pub fn check_commit(
+    clock: u64,
+    rate: u16,
+    volumes: [Volume; 8],
+    entries: [Entry; 64],
+    tokens: [Token; 32],
+    relays: [Relay; 32],
+    s: Session,
+) -> Verdict
+    ensures { λ r. ⌜ JudgedIn clock rate volumes entries tokens relays s r ⌝ }
+{
+    let puts = s.puts;
+    let n = s.volume;
+    let e = survey(entries, n, puts, s.count);
+    if s.token.0 == 0 {
+        return refusing(SESSION);
+    }
+    if !others_within(e.within, tokens) {
+        return refusing(BAD);
+    }
+    let x = check_found(clock, rate, volumes, tokens, relays, s, e.kept, e.rows);
+    let c = x.c;
+    if c.number != 0 {
+        return refusing(c.number);
+    }
+    let p = c.p;
+    let places = p.places;
+    let loaded = p.rows;
+    let marks = e.marks;
+    let plan = Plan {
+        volume: c.row,
+        token: x.at,
+        places,
+        relays: loaded,
+        marks,
+    };
+    Verdict { number: 0, plan }
+}
+
 // The session's puts are stored.
 pub fn commit_on(t: Tables, s: Session) -> CommitOutcome
     ensures { λ r. ⌜ onCommit t r ≡ commitWithin t s ⌝ }
 {
     let volumes = t.volumes;
+    let entries = t.entries;
     let tokens = t.tokens;
     let relays = t.relays;
-    let entries = t.entries;
-    let puts = s.puts;
-    let n = s.volume;
-    let e = survey(entries, n, puts, s.count);
-    if s.token.0 == 0 {
-        return refuse(t, s, SESSION);
+    let x = check_commit(t.clock, t.rate, volumes, entries, tokens, relays, s);
+    if x.number != 0 {
+        return refuse(t, s, x.number);
     }
-    if !others_within(e.within, tokens) {
-        return refuse(t, s, BAD);
-    }
-    let x = check_found(t.clock, t.rate, volumes, tokens, relays, s, e.kept, e.rows);
-    let c = x.c;
-    if c.number != 0 {
-        return refuse(t, s, c.number);
-    }
-    let k = x.row;
-    let marks = e.marks;
-    store_rows(volumes, entries, tokens, k, s, c, marks)
+    let plan = x.plan;
+    store_commit(t, s, plan)
 }

@@ -1,5 +1,5 @@
 // The work of commit: a session's staged puts are stored. It reads the tables and the session, and gives back what it changes.
-// Its steps stand for themselves, each over the parts that it reads: what it needs of the entries, the checks, and the storing.
+// Its two halves stand for themselves: the checks move no table, and the storing is for a commit that they do not refuse.
 // Every public function answers for every input: past the limits that their sums rest on, the checks and the storing answer 1.
 mod answers;
 mod charge;
@@ -11,10 +11,11 @@ mod sizes;
 mod surveys;
 mod within;
 
-pub use checks::check_rows;
 pub use checks::early_refusal;
+pub use commit::check_commit;
 pub use commit::commit_on;
-pub use commit::store_rows;
+pub use commit::refusing;
+pub use commit::store_commit;
 use rules::Answer;
 use rules::Entry;
 use rules::Placement;
@@ -22,8 +23,6 @@ use rules::Relay;
 use rules::Session;
 use rules::Token;
 use rules::Volume;
-pub use surveys::survey;
-pub use surveys::survey_new;
 
 // What a commit leaves: the volume, entry, token and relay tables, and the session.
 pub struct CommitOutcome {
@@ -35,25 +34,18 @@ pub struct CommitOutcome {
     pub session: Session,
 }
 
-// A placement for each put, and the relay table after them; or that some put finds too few relays.
-pub struct Places {
-    pub placed: bool,
+// How a commit is stored: the rows of its volume and its token, a placement for each put, the relay table after them, and a mark for each
+// entry that the puts replace.
+pub struct Plan {
+    pub volume: usize,
+    pub token: usize,
     pub places: [Placement; 8],
-    pub rows: [Relay; 32],
-}
-
-// What the checks give: the number of the refusal, or 0; where it is 0, the row of the volume, and the placements.
-pub struct Checked {
-    pub number: u32,
-    pub row: usize,
-    pub p: Places,
-}
-
-// What a commit reads of the entries. `marks`: which entries the puts replace. `within`: whether the entries are within their limits; where they are,
-// `kept` are the bytes of the volume's entries that stay. `rows`: how many rows are in use, and how many more the puts need.
-pub struct Findings {
+    pub relays: [Relay; 32],
     pub marks: [bool; 64],
-    pub within: bool,
-    pub kept: u64,
-    pub rows: usize,
+}
+
+// What the checks of a commit give: the number of the refusal, or 0 with the plan to store it by.
+pub struct Verdict {
+    pub number: u32,
+    pub plan: Plan,
 }

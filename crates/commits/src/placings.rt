@@ -8,11 +8,18 @@ ghost use Rattle.rules.specs.Sound.{shardsFit};
 ghost use Rattle.rules.specs.Commit.{placeAll};
 ghost use Rattle.commits.specs.Within.{relayWithin, putWithin};
 ghost use Rattle.commits.specs.Stored.{placedBy};
-use super::Places;
 use placing::place_put;
+use rules::Placement;
 use rules::Put;
 use rules::Relay;
 use rules::fresh_placement;
+
+// A placement for each put, and the relay table after them; or that some put finds too few relays.
+pub(crate) struct Places {
+    pub placed: bool,
+    pub places: [Placement; 8],
+    pub rows: [Relay; 32],
+}
 
 // No put is placed.
 pub(crate) fn no_places(rows: [Relay; 32]) -> Places

@@ -126,20 +126,30 @@ pub(crate) fn can_check(volumes: [Volume; 8], relays: [Relay; 32], s: Session, k
     kept <= 4398046511104
 }
 
-// Whether the puts can be stored: the volume's row is in the table, its version is not the last, and the session and the tokens are within their limits.
-pub(crate) fn can_store(volumes: [Volume; 8], tokens: [Token; 32], s: Session, row: usize) -> bool
-    ensures { λ r. ⌜ r ≡ canStore volumes tokens s row ⌝ }
+// Whether the puts can be stored: the rows of the volume and the token are in their tables, the volume's version is not the last, and the session and
+// the tokens are within their limits.
+pub(crate) fn can_store(
+    volumes: [Volume; 8],
+    tokens: [Token; 32],
+    s: Session,
+    volume: usize,
+    token: usize,
+) -> bool
+    ensures { λ r. ⌜ r ≡ canStore volumes tokens s volume token ⌝ }
 {
-    if 8 <= row {
+    if 8 <= volume {
         return false;
     }
-    if 4294967295 <= volumes[row].version {
+    if 4294967295 <= volumes[volume].version {
         return false;
     }
     if !session_within(s) {
         return false;
     }
-    all_tokens(tokens)
+    if !all_tokens(tokens) {
+        return false;
+    }
+    token < 32
 }
 
 // Whether the entries, of which `within` says it, and the tokens are within their limits.

@@ -6,4 +6,4 @@ pub mod FlagLaws
 pub mod KeyLaws
 pub mod DownLaws
 pub mod UnmarkedLaws
-pub mod ListLoops
+pub mod PutKeyLaws

@@ -1,5 +1,3 @@
-pub mod EntryLists
-pub mod EntryListLaws
 pub mod Keys
 pub mod Marks
 pub mod MarkLaws

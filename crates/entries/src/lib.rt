@@ -1,15 +1,11 @@
-// The entry table: entries that go out of it, with the room that they give back, the work of remove, what a commit stores, and the
-// table as lists of numbers. Each function reads what it needs and gives back what it changes. Every public function answers for
-// every input.
-mod entry_numbers;
+// The entry table: entries that go out of it, with the room that they give back, the work of remove, and what a commit stores. Each
+// function reads what it needs and gives back what it changes. Every public function answers for every input.
 mod keys;
 mod marks;
 mod paths;
 mod remove;
 mod stores;
 
-pub use entry_numbers::entry_lists;
-pub use entry_numbers::may_replace;
 pub use marks::any_mark;
 pub use marks::clear_marked;
 pub use marks::give_back;
@@ -29,12 +25,4 @@ pub struct RemoveOutcome {
     pub volumes: [Volume; 8],
     pub entries: [Entry; 64],
     pub relays: [Relay; 32],
-}
-
-// The entry table in numbers, row by row: the number of each entry's volume, its size, and the number of its path, which is 0 of a free
-// row.
-pub struct EntryLists {
-    pub owners: [u64; 64],
-    pub sizes: [u64; 64],
-    pub keys: [u64; 64],
 }

@@ -11,7 +11,7 @@ use rules::Tables;
 use rules::numbers::SESSION;
 
 // A session ends with nothing stored, whatever the tables are.
-pub fn abandon_row(s: Session) -> SessionOutcome
+pub(crate) fn abandon_row(s: Session) -> SessionOutcome
     ensures { λ r. ⌜ ((t : Tables) → onSession t r ≡ abandonRule t s) ⌝ }
 {
     if s.token.0 == 0 {

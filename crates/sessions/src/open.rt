@@ -75,7 +75,7 @@ fn open_token(clock: u64, volumes: [Volume; 8], s: Session, k: Token) -> Session
 }
 
 // A session begins in an idle slot, where these are the clock and the volumes, and `k` is the token's row, if it is there.
-pub fn open_row(
+pub(crate) fn open_row(
     clock: u64,
     volumes: [Volume; 8],
     s: Session,

@@ -104,7 +104,7 @@ fn stage_fits(path: &[u8], size: u64) -> bool
 }
 
 // A session stages an object, where `k` is the row of the session's token, if it is there.
-pub fn stage_row(
+pub(crate) fn stage_row(
     s: Session,
     there: bool,
     k: Token,

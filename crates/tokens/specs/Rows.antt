@@ -2,7 +2,7 @@
 use mathlib.Core.Bool.{Bool, not, cond}
 use mathlib.Core.List.{List}
 use Prim.Native.Nat.{ℕ}
-use lib.Dec.{eqb, leb}
+use lib.Dec.{leb}
 use Rattle.lists.specs.Lists.{Hit, hit, miss}
 use Rattle.text.specs.Text.{isPath}
 use Rattle.rules.specs.declared.Tables.{Tables}
@@ -17,10 +17,6 @@ use Rattle.rules.specs.TokenCalls.{newToken, lookIn}
 -- look, by the row h
 unfoldable pub lookFound : Tables → List ℕ → Hit Token → TablesOutcome
 lookFound t path h = cond (not (isPath path)) (refused t BAD) (lookIn t path h)
-
--- a number is 0, which is that of a free row
-abbrev pub isZero : ℕ → Bool
-isZero n = eqb n 0
 
 -- attenuate, by the parent's row, whose chain has `deep` tokens: 4, 17, 18
 unfoldable pub attenuateDeep : Tables → ScopeArg → ℕ → Hit Token → TablesOutcome

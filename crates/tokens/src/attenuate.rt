@@ -66,7 +66,7 @@ fn attenuate_in(
 
 // The same as `attenuate_on`, of the parent's row where there is one, its depth, the last token number given, and whether a row of the
 // tokens is free.
-pub fn attenuate_row(
+pub(crate) fn attenuate_row(
     there: bool,
     k: Token,
     deep: usize,

@@ -62,7 +62,7 @@ fn grant_in(
 }
 
 // The same as `grant_on`, of a table of volumes, the last token number given, and whether a row of the tokens is free.
-pub fn grant_row(
+pub(crate) fn grant_row(
     volumes: [Volume; 8],
     last: u32,
     free: bool,

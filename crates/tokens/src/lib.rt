@@ -1,7 +1,7 @@
-// The work of the calls on tokens: grant, attenuate, revoke and look. Each has two forms. `grant_on` and the like read the tables
-// and give back what they change of them: the token table and the last number given. `look_on` changes nothing and gives back
-// its answer. `grant_row` and the like take only what they read of the tables, and in place of a token's number its row, or that there
-// is none. They give back the new row, the set of the rows that go, or the answer. Every public function answers for every input.
+// The work of the calls on tokens: grant, attenuate, revoke and look. `grant_on` and the like read the tables and give back what they
+// change of them: the token table and the last number given. `look_on` changes nothing and gives back its answer. Each is made of a
+// function of this crate, `grant_row` and the like, that takes only what it reads of the tables, since these would be copied, and in
+// place of a token's number its row, or that there is none. Every public function answers for every input.
 mod answers;
 mod attenuate;
 mod grant;
@@ -11,18 +11,9 @@ mod revoke;
 mod scope;
 
 pub use attenuate::attenuate_on;
-pub use attenuate::attenuate_row;
 pub use grant::grant_on;
-pub use grant::grant_row;
-pub use look::look_in;
 pub use look::look_on;
-pub use look::look_row;
-pub use new_tokens::free_in;
-pub use new_tokens::is_found;
-pub use new_tokens::place_of;
-pub use revoke::clear_rows;
 pub use revoke::revoke_on;
-pub use revoke::revoke_row;
 use rules::Answer;
 use rules::Token;
 

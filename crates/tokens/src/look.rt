@@ -62,7 +62,7 @@ fn look_token(clock: u64, k: Token, found: bool, e: Entry, path: &[u8]) -> Answe
 }
 
 // In the table of the entries, from the token's row on. A row of another volume is not copied.
-pub fn look_in(clock: u64, k: Token, entries: [Entry; 64], path: &[u8]) -> Answer
+pub(crate) fn look_in(clock: u64, k: Token, entries: [Entry; 64], path: &[u8]) -> Answer
     ensures { λ r. ⌜ ((t : Tables) → t .clock ≡ clock → t .entries ≡ entries → unchanged t r ≡ lookIn t (now (path .entry)) (hit 0 k)) ⌝ }
 {
     let n = k.volume;
@@ -81,7 +81,13 @@ pub fn look_in(clock: u64, k: Token, entries: [Entry; 64], path: &[u8]) -> Answe
 }
 
 // The same as `look_on`, of the clock, a table of entries, and the token's row where there is one.
-pub fn look_row(clock: u64, entries: [Entry; 64], there: bool, k: Token, path: &[u8]) -> Answer
+pub(crate) fn look_row(
+    clock: u64,
+    entries: [Entry; 64],
+    there: bool,
+    k: Token,
+    path: &[u8],
+) -> Answer
     ensures { λ r. ⌜ ((t : Tables) → t .clock ≡ clock → t .entries ≡ entries → unchanged t r ≡ lookFound t (now (path .entry)) (rowIf there k)) ⌝ }
 {
     if !is_path(path) {

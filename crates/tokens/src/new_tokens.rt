@@ -8,7 +8,6 @@ ghost use Rattle.rules.specs.declared.Token.{Token};
 ghost use Rattle.rules.specs.Tables.{freeToken};
 ghost use Rattle.rules.specs.TokenCalls.{newToken};
 ghost use Rattle.tokens.specs.Parts.{storedAt, storedIn, notStored, isFound, placeOf};
-ghost use Rattle.tokens.specs.Rows.{isZero};
 use super::NewToken;
 use super::TokensOutcome;
 use lists::Found;
@@ -63,22 +62,8 @@ pub(crate) fn new_token(
     }
 }
 
-// Where the first 0 stands: the first free row, in the list of the tokens' numbers.
-pub fn free_in(numbers: &[u64]) -> Found
-    ensures { λ r. ⌜ r ≡ firstAt isZero 0 (now (numbers .entry)) ⌝ }
-{
-    let mut i: usize = 0;
-    while i < numbers.len() {
-        if numbers[i] == 0 {
-            return Found::At(i);
-        }
-        i += 1;
-    }
-    Found::Nothing
-}
-
 // Whether a search found a row.
-pub fn is_found(f: Found) -> bool
+pub(crate) fn is_found(f: Found) -> bool
     ensures { λ r. ⌜ r ≡ isFound f ⌝ }
 {
     let Found::At(_) = f else {
@@ -88,7 +73,7 @@ pub fn is_found(f: Found) -> bool
 }
 
 // The index of the row that a search found: 0 where there is none.
-pub fn place_of(f: Found) -> usize
+pub(crate) fn place_of(f: Found) -> usize
     ensures { λ r. ⌜ r ≡ placeOf f ⌝ }
 {
     let Found::At(i) = f else {

@@ -94,7 +94,7 @@ fn none_dropped(n: u32) -> Dropped
 
 // The same as `revoke_on`, of a table of volumes, the token's row where there is one, and the lists of the tokens' numbers and of their
 // parents' numbers.
-pub fn revoke_row(
+pub(crate) fn revoke_row(
     volumes: [Volume; 8],
     there: bool,
     k: Token,
@@ -122,7 +122,7 @@ pub fn revoke_row(
 }
 
 // The table with the rows of the set as fresh ones.
-pub fn clear_rows(rows: [Token; 32], set: u32) -> [Token; 32]
+pub(crate) fn clear_rows(rows: [Token; 32], set: u32) -> [Token; 32]
     ensures { λ r. ⌜ r ≡ clearedIn set freshToken rows ⌝ }
 {
     let mut next = rows;

@@ -1,5 +1,5 @@
 -- The work of a record is the rule of its call: the arm names the call, and its fields are what the record and its bytes hold. Assumes nothing.
-use mathlib.Core.Path.{_≡_}
+use mathlib.Core.Path.{_≡_, refl}
 use mathlib.Core.List.{List}
 use Prim.Native.Nat.{ℕ}
 use lib.ListN.{length}
@@ -13,7 +13,11 @@ use Rattle.rules.specs.declared.SlotOutcome.{SlotOutcome}
 use Rattle.rules.specs.SessionCalls.{openRule, stageRule, abandonRule}
 use Rattle.rules.specs.VolumeCalls.{createRule, depositRule, deleteRule, undeleteRule, removeRule}
 use Rattle.rules.specs.TokenCalls.{grantRule, attenuateRule, revokeRule, lookRule}
+use Rattle.rules.specs.Commit.{commitRule}
 use Rattle.rules.specs.Calls.{askRule, workRule}
+use Rattle.commits.specs.declared.Verdict.{Verdict}
+use Rattle.commits.specs.Early.{earlyNumber, early-refused}
+use Rattle.commits.specs.Verdicts.{noPlan, JudgedIn, judged-refusal}
 use Rattle.relays.specs.declared.RelayChange.{RelayChange}
 use Rattle.relays.specs.Rows.{registerRow, heartbeatRow}
 use Rattle.relays.specs.RowLaws.{register-by-row, register-below, heartbeat-by-row, heartbeat-below}
@@ -29,7 +33,7 @@ use Rattle.transcripts.specs.declared.TokenCall.the-variants as token
 use Rattle.transcripts.specs.declared.SlotCall.{SlotCall}
 use Rattle.transcripts.specs.declared.SlotCall.the-variants as slot
 use Rattle.transcripts.specs.Groups.{relayAsk, volumeAsk, tokenAsk, lookAsk, deleteAsk, removeAsk, slotWork}
-use Rattle.transcripts.specs.Parts.{Asked, RelayDone}
+use Rattle.transcripts.specs.Parts.{Asked, RelayDone, CommitJudged}
 
 -- the calls on the relays, over the clock, the relays and the last number given
 module _ (clock : ℕ) (rows : List Relay) (last : ℕ) (r : Record) (o : RelayChange) (few : length rows ≡ 32) where
@@ -108,3 +112,11 @@ module _ (t : Tables) (s : Session) (x : SlotOutcome) where
     pub abandoning : w ≡ slot.Abandon → x ≡ abandonRule t s → x ≡ workRule (slotWork w r l) t s
     unfolding workRule
     abandoning e f = rw e f
+
+-- the verdict x on a commit, where n is the number of its first checks
+module _ (t : Tables) (s : Session) (x : Verdict) (n : ℕ) (e : n ≡ earlyNumber (t .clock) (t .volumes) (t .tokens) s) where
+  pub refuses-early : (n ≡ 0 → ⊥) → x ≡ record { number = n; plan = noPlan } → CommitJudged t s x
+  refuses-early z q = record { judged = λ w. judged-refusal t s (commitRule t s) x n q z (early-refused t s n e z) }
+
+pub judges : (t : Tables) (s : Session) (x : Verdict) → JudgedIn (t .clock) (t .rate) (t .volumes) (t .entries) (t .tokens) (t .relays) s x → CommitJudged t s x
+judges t s x j = record { judged = λ w. rw w at (j .judged t refl refl refl refl refl refl) }

@@ -38,9 +38,13 @@ use Rattle.epochs.specs.Parts.{collected}
 use Rattle.epochs.specs.Within.{advanceWithin, passWithin, dueWithin}
 use Rattle.epochs.specs.PassLaws.{advance-parts}
 use Rattle.epochs.specs.WithinLaws.{advance-sound}
+use Rattle.commits.specs.declared.CommitOutcome.{CommitOutcome}
+use Rattle.commits.specs.declared.Verdict.{Verdict}
+use Rattle.commits.specs.Parts.{onCommit}
+use Rattle.commits.specs.Stored.{StoredBy}
+use Rattle.commits.specs.Verdicts.{Judged}
 use Rattle.commits.specs.Within.{commitWithin}
 use Rattle.commits.specs.WithinLaws.{commit-sound}
-use Rattle.commits.specs.Early.{earlyNumber, early-refused}
 use Rattle.journal.specs.declared.Record.{Record}
 use Rattle.journal.specs.Records.{v01}
 use Rattle.journal.specs.Places.{callAt}
@@ -53,7 +57,7 @@ use Rattle.transcripts.specs.declared.Group.the-variants as group
 use Rattle.transcripts.specs.declared.Item.{Item}
 use Rattle.transcripts.specs.Groups.{groupOf, relayAsk, volumeAsk, tokenAsk, lookAsk, deleteAsk, removeAsk, slotWork, callIn, isRecord, StandsAt}
 use Rattle.transcripts.specs.ItemLaws.{call-in-group, slot-there, no-slot-refused, item-named}
-use Rattle.transcripts.specs.Parts.{deskOf, Asked, RelayDone}
+use Rattle.transcripts.specs.Parts.{deskOf, Asked, RelayDone, CommitJudged}
 use Rattle.transcripts.proofs.ReplayLaws.{ReplayLoop, Answered, Carried}
 
 -- ---- a desk that calls reach is sound, and there the work of an advance and of a commit is its rule
@@ -264,33 +268,39 @@ module _ (j : List ℕ) (p : ℕ) (y : Item) (ey : StandsAt j p y) where
       slot-session : session ≡ getD slots (r .slot) freshSession
       slot-session = same-row slots (r .slot) d freshSession (rw (h .held .slots) (commit-below e))
 
-      -- x is what it gave
-      module _ (x : SlotOutcome) (ea : a ≡ x .answer) (f : x ≡ commitWithin t session) where
-        commits-on : Carried g r l t slots a (x .tables) (set slots (r .slot) (x .session))
-        commits-on =
-            by-work (rw e) x commits (rw e) (commit-below e)
-            (f ∙ ap (commitWithin t) slot-session ∙ commit-is (deskOf t slots) (h .held) (r .slot) (commit-below e))
-            ea
+      rule-there : commitWithin t session ≡ commitRule t session
+      unfolding workRule
+      rule-there = rw slot-session (commit-is (deskOf t slots) (h .held) (r .slot) (commit-below e))
 
-        pub commit-carried : (t′ : Tables) (slots′ : List Session) → t′ ≡ x .tables → slots′ ≡ set slots (r .slot) (x .session)
-            → Carried g r l t slots a t′ slots′
-        commit-carried t′ slots′ et es′ = rw (et, es′) commits-on
+      commit-same : commitRule t session ≡ workRule commits t (getD slots (r .slot) freshSession)
+      unfolding workRule
+      commit-same = ap (commitRule t) slot-session
 
-        pub commit-said : Answered g r l t slots a
-        commit-said = said (x .tables) (set slots (r .slot) (x .session)) commits-on
+      -- x is what its checks gave
+      module _ (x : Verdict) (f : CommitJudged t session x) where
+        verdict : Judged t session (commitRule t session) x
+        verdict = f .judged rule-there
 
-      -- its first checks refuse it
-      module _ (number : ℕ) (ea : a ≡ refusal number) (f : number ≡ earlyNumber (t .clock) (t .volumes) (t .tokens) session) (z : number ≡ 0 → ⊥) where
-        refuses : slotRefused t session number ≡ workRule commits t (getD slots (r .slot) freshSession)
-        unfolding workRule
-        refuses = sym (early-refused t session number f z) ∙ ap (commitRule t) slot-session
+        module _ (z : x .number ≡ 0 → ⊥) (ea : a ≡ refusal (x .number)) where
+          stopped-on : Carried g r l t slots a t slots
+          stopped-on =
+              rw (set-getD slots (r .slot) d) at
+              (by-work (rw e) (slotRefused t session (x .number)) commits (rw e) (commit-below e) (sym (verdict .refused z) ∙ commit-same) ea)
 
-        refused-on : Carried g r l t slots a t slots
-        refused-on =
-            rw (set-getD slots (r .slot) d) at (by-work (rw e) (slotRefused t session number) commits (rw e) (commit-below e) refuses ea)
+          pub stopped-said : Answered g r l t slots a
+          stopped-said = said t slots stopped-on
 
-        pub refused-said : Answered g r l t slots a
-        refused-said = said t slots refused-on
+          pub stopped-carried : (t′ : Tables) (slots′ : List Session) → t′ ≡ t → slots′ ≡ slots → Carried g r l t slots a t′ slots′
+          stopped-carried t′ slots′ et es = rw (et, es) stopped-on
 
-        pub refused-carried : (t′ : Tables) (slots′ : List Session) → t′ ≡ t → slots′ ≡ slots → Carried g r l t slots a t′ slots′
-        refused-carried t′ slots′ et es = rw (et, es) refused-on
+        -- and o what its storing left
+        module _ (z : x .number ≡ 0) (o : CommitOutcome) (b : StoredBy t session (x .plan) o) (ea : a ≡ o .answer) where
+          stored-on : Carried g r l t slots a (onCommit t o .tables) (set slots (r .slot) (o .session))
+          stored-on = by-work (rw e) (onCommit t o) commits (rw e) (commit-below e) (verdict .stored z o b ∙ commit-same) ea
+
+          pub commit-said : Answered g r l t slots a
+          commit-said = said (onCommit t o .tables) (set slots (r .slot) (o .session)) stored-on
+
+          pub commit-carried : (t′ : Tables) (slots′ : List Session) → t′ ≡ onCommit t o .tables → slots′ ≡ set slots (r .slot) (o .session)
+              → Carried g r l t slots a t′ slots′
+          commit-carried t′ slots′ et es′ = rw (et, es′) stored-on

@@ -9,7 +9,7 @@ use native.Mathlib.Omega.{arith}
 use mir.Syntax.{w64}
 use mir.Val.{Fits}
 use lib.Pow.{areBytes}
-use lib.ListN.{length, drop, replicate, length-append}
+use lib.ListN.{length, take, drop, replicate, length-append}
 use Rattle.rules.specs.declared.Answer.{Answer}
 use Rattle.rules.specs.declared.Session.{Session}
 use Rattle.rules.specs.declared.Tables.{Tables}
@@ -224,6 +224,17 @@ module _ (l out₀ : List ℕ) (start : ℕ) where
                     (over-over at line later out within ∙ ap (λ (m : List ℕ). over at m out) (sym left-is) ∙ h .left);
                 desk = desk-is;
               }
+
+      -- the same of a call that reads none of its bytes
+      abbrev bytes-of : List ℕ
+      bytes-of = take (x .after - (p + 2)) (drop (p + 2) l)
+
+      pub plain-room : (a : Answer) → Answered (x .group) (x .fields) bytes-of t slots a → at + length (recordLine (n + 1) a) ≤ length out
+      plain-room a c = line-room bytes-of (record { same = refl }) a c
+
+      pub plain-step : (a : Answer) (t′ : Tables) (slots′ : List Session) → Carried (x .group) (x .fields) bytes-of t slots a t′ slots′ → (at′ : ℕ) (out′ : List ℕ)
+          → Wrote at (recordLine (n + 1) a) out at′ out′ → ReplayLoop l out₀ start t′ slots′ (n + 1) (x .after) at′ out′
+      plain-step a t′ slots′ c at′ out′ f = replay-step bytes-of (record { same = refl }) a t′ slots′ c at′ out′ f
 
 pub ruleset ends = (end-room, end-replays)
 

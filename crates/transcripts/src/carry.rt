@@ -2,18 +2,23 @@
 ghost use mathlib.Core.Path.{_≡_};
 ghost use Rattle.rules.specs.Calls.{workRule};
 ghost use Rattle.entries.specs.Parts.{onRemove};
-ghost use Rattle.commits.specs.Early.{earlyNumber};
+ghost use Rattle.commits.specs.Stored.{StoredBy};
 ghost use Rattle.sessions.specs.Parts.{onSession};
 ghost use Rattle.volumes.specs.Parts.{onVolumes, onDelete};
 ghost use Rattle.tokens.specs.Parts.{onTokens, unchanged};
 ghost use Rattle.transcripts.specs.Groups.{volumeAsk, tokenAsk, lookAsk, deleteAsk, removeAsk, slotWork};
-ghost use Rattle.transcripts.specs.Parts.{Asked, RelayDone};
+ghost use Rattle.transcripts.specs.Parts.{Asked, RelayDone, CommitJudged};
 use super::Item;
 use super::RelayCall;
 use super::SlotCall;
 use super::TokenCall;
 use super::VolumeCall;
+use commits::CommitOutcome;
+use commits::Verdict;
+use commits::check_commit;
 use commits::early_refusal;
+use commits::refusing;
+use commits::store_commit;
 use entries::RemoveOutcome;
 use journal::account_of;
 use journal::hash_of;
@@ -129,11 +134,25 @@ pub(crate) fn slot_call(
     }
 }
 
-// The number of the first checks of a commit: of the refusal, or 0.
-pub(crate) fn early_number(t: Tables, s: Session) -> u32
-    ensures { λ n. ⌜ n ≡ earlyNumber (t .clock) (t .volumes) (t .tokens) s ⌝ }
+// The verdict on a commit. One that its first checks refuse reads neither the entries nor the relays.
+pub(crate) fn commit_call(t: Tables, s: Session) -> Verdict
+    ensures { λ x. ⌜ CommitJudged t s x ⌝ }
 {
     let volumes = t.volumes;
     let tokens = t.tokens;
-    early_refusal(t.clock, volumes, tokens, s)
+    let number = early_refusal(t.clock, volumes, tokens, s);
+    if number != 0 {
+        return refusing(number);
+    }
+    let entries = t.entries;
+    let relays = t.relays;
+    check_commit(t.clock, t.rate, volumes, entries, tokens, relays, s)
+}
+
+// A commit that its checks did not refuse is stored by their plan.
+pub(crate) fn store_call(t: Tables, s: Session, x: Verdict) -> CommitOutcome
+    ensures { λ o. ⌜ StoredBy t s (x .plan) o ⌝ }
+{
+    let plan = x.plan;
+    store_commit(t, s, plan)
 }

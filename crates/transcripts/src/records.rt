@@ -13,12 +13,13 @@ ghost use Rattle.transcripts.specs.Transcript.{programRate};
 ghost use Rattle.transcripts.specs.TranscriptLaws.{printedFrom};
 use super::Group;
 use super::Replayed;
+use super::carry::commit_call;
 use super::carry::delete_call;
-use super::carry::early_number;
 use super::carry::look_call;
 use super::carry::relay_call;
 use super::carry::remove_call;
 use super::carry::slot_call;
+use super::carry::store_call;
 use super::carry::token_call;
 use super::carry::volume_call;
 use super::items::body_at;
@@ -26,7 +27,6 @@ use super::items::item_at;
 use super::lines::put_end_line;
 use super::lines::put_record_line;
 use super::lines::put_stop_line;
-use commits::commit_on;
 use epochs::collect_on;
 use epochs::pass_on;
 use rules::Desk;
@@ -69,7 +69,7 @@ pub(crate) fn replay_records(journal: &[u8], out: &mut [u8], start: usize) -> Re
     loop {
         let item = item_at(journal, p);
         let group = item.group;
-        let body = body_at(journal, p, item.after);
+        let from = p;
         p = item.after;
         n += 1;
         match group {
@@ -93,6 +93,7 @@ pub(crate) fn replay_records(journal: &[u8], out: &mut [u8], start: usize) -> Re
             }
             Group::Volumes(which) => {
                 t.relays = relays;
+                let body = body_at(journal, from, p);
                 let o = volume_call(t, which, item, body);
                 at = put_record_line(out, at, n, o.answer);
                 let volumes = o.volumes;
@@ -102,6 +103,7 @@ pub(crate) fn replay_records(journal: &[u8], out: &mut [u8], start: usize) -> Re
             }
             Group::Tokens(which) => {
                 t.relays = relays;
+                let body = body_at(journal, from, p);
                 let o = token_call(t, which, item, body);
                 at = put_record_line(out, at, n, o.answer);
                 let tokens = o.tokens;
@@ -109,6 +111,7 @@ pub(crate) fn replay_records(journal: &[u8], out: &mut [u8], start: usize) -> Re
                 t.last_token = o.last;
             }
             Group::Slot(which) => {
+                let body = body_at(journal, from, p);
                 let i = item.fields.slot as usize;
                 let s = slots[i];
                 t.relays = relays;
@@ -120,6 +123,7 @@ pub(crate) fn replay_records(journal: &[u8], out: &mut [u8], start: usize) -> Re
             Group::NoSlot => at = put_record_line(out, at, n, rules::refusal(BAD)),
             Group::Look => {
                 t.relays = relays;
+                let body = body_at(journal, from, p);
                 at = put_record_line(out, at, n, look_call(t, item, body));
             }
             Group::Advance => {
@@ -144,6 +148,7 @@ pub(crate) fn replay_records(journal: &[u8], out: &mut [u8], start: usize) -> Re
             }
             Group::Delete => {
                 t.relays = relays;
+                let body = body_at(journal, from, p);
                 let o = delete_call(t, item, body);
                 at = put_record_line(out, at, n, o.answer);
                 let volumes = o.volumes;
@@ -154,12 +159,12 @@ pub(crate) fn replay_records(journal: &[u8], out: &mut [u8], start: usize) -> Re
             Group::Commit => {
                 let i = item.fields.slot as usize;
                 let s = slots[i];
-                let number = early_number(t, s);
-                if number != 0 {
-                    at = put_record_line(out, at, n, rules::refusal(number));
+                t.relays = relays;
+                let x = commit_call(t, s);
+                if x.number != 0 {
+                    at = put_record_line(out, at, n, rules::refusal(x.number));
                 } else {
-                    t.relays = relays;
-                    let o = commit_on(t, s);
+                    let o = store_call(t, s, x);
                     let after = o.session;
                     slots[i] = after;
                     at = put_record_line(out, at, n, o.answer);
@@ -174,6 +179,7 @@ pub(crate) fn replay_records(journal: &[u8], out: &mut [u8], start: usize) -> Re
             }
             Group::Remove => {
                 t.relays = relays;
+                let body = body_at(journal, from, p);
                 let o = remove_call(t, item, body);
                 at = put_record_line(out, at, n, o.answer);
                 let volumes = o.volumes;

@@ -16,4 +16,4 @@ token-row-spec =
     (λ c. search (token-absent, needs))
     (λ c. search in-table)
     (λ c. search in-table)
-    (λ c. search (token-present, needs)))
+    (λ c. search (token-present, in-table, needs)))

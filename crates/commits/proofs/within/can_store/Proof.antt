@@ -18,4 +18,5 @@ can-store-spec =
     (λ c κs. search needs)
     (λ c. search refused depth 9)
     (λ c κs. search needs)
+    (λ c. search refused depth 9)
     (λ c. search (passed, lt-ltb)))

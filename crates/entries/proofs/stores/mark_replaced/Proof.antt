@@ -8,7 +8,7 @@ use Rattle.lists.specs.ByteLoopLaws.{FillLoop, fills-of}
 use Rattle.rules.specs.Commit.{isReplaced}
 use Rattle.rows.specs.Blank.{blankEntry}
 use Rattle.entries.specs.MarkLaws.{row-marked, row-unmarked, not-replaced}
-use Rattle.entries.specs.EntryListLaws.{not-keyed}
+use Rattle.entries.proofs.PutKeyLaws.{not-keyed}
 use borrow.Author.Needs.{needs}
 use Rattle.entries.proofs.stores.mark_replaced.Statement.{statement}
 use Rattle.entries.proofs.stores.mark_replaced.Tie as tie
