@@ -24,7 +24,7 @@ use Rattle.rules.specs.declared.Session.{Session}
 use Rattle.rules.specs.declared.Tables.{Tables}
 use Rattle.rules.specs.declared.SlotOutcome.{SlotOutcome}
 use Rattle.rules.specs.Numbers.{BAD, NO-TOKEN, NO-PLACE, SESSION}
-use Rattle.rules.specs.Tables.{staged, isVolume, isToken, tokenOf}
+use Rattle.rules.specs.Tables.{staged, isVolume, isToken, volumeOf, tokenOf}
 use Rattle.rules.specs.Scope.{family}
 use Rattle.rules.specs.Outcome.{slotRefused}
 use Rattle.rules.specs.Commit.{stagedBytes, placeAll}
@@ -38,7 +38,7 @@ use Rattle.commits.specs.Verdicts.{noPlan, Judged, JudgedIn, judged-refu
 use Rattle.rows.specs.Links.{rowIf}
 use Rattle.commits.specs.Early.{earlyToken, earlyVolume}
 use Rattle.commits.specs.Checks.{tokenFault, limitsFault, rowsFault, faultAt, faultBy, canCheck, rowsNumber, Ready, PlacedIf, RowsIf, Surveyed}
-use Rattle.commits.specs.CommitSteps.{kept-ok, relays-ok, volumes-ok, session-ok, puts-ok, count-ok, shards-found, parts-stopped, parts-told, parts-stored, idle-stopped}
+use Rattle.commits.specs.CommitSteps.{kept-ok, relays-ok, volumes-ok, session-ok, puts-ok, count-ok, shards-found, parts-stopped, parts-told, parts-token, parts-stored, idle-stopped}
 
 -- in the function of all checks: r said that their sums fit
 module _ (volumes : List Volume) (relays : List Relay) (s : Session) (kept : ℕ) (r : Bool) (e : r ≡ canCheck volumes relays s kept) (g : not r ≡ false) where
@@ -174,14 +174,17 @@ module _ (t : Tables) (s : Session) (x : Verdict) (ms : List Bool) (within : Boo
     passed-judged : number ≡ 0 → (i : ℕ) (places : List Placement) (rs : List Relay)
         → RowsIf number (t .clock) (t .volumes) (t .relays) s i (take (s .count) places) rs → i < 8 → j < 32
         → x ≡ record { number = 0; plan = record { volume = i; token = j; places = places; relays = rs; marks = ms } } → Judged t s (commitWithin t s) x
-    unfolding tokenOf
+    unfolding volumeOf tokenOf
     passed-judged z i places rs a h u q =
-        let answers = parts-told t s ms within kept rows there j k number running entries-in tokens-in w f e z i places rs a in
         rw q
         (record {
-          told = sym answers;
+          told = sym (parts-told t s ms within kept rows there j k number running entries-in tokens-in w f e z i places rs a);
           refused = λ n. absurd (n refl);
           none = λ n. absurd (n refl);
+          volume = λ y. a .volume z;
+          token = λ y. parts-token t s ms within kept rows there j k number running entries-in tokens-in w f e z i places rs a;
+          marks = λ y. w .replaced;
+          placing = λ y. a .placing z;
           stored = λ y o b. parts-stored t s ms within kept rows there j k number running entries-in tokens-in w f e z i places rs a o h u b;
         })
 

@@ -1,5 +1,4 @@
--- A commit step by step, for a caller that has the tables in parts: what its work answers by the number that the checks over the parts gave, and what the
--- parts that were stored make of the tables. Assumes nothing.
+-- A commit step by step: what its work answers by the number of the checks, and what storing by their plan makes of the tables. Assumes nothing.
 use mathlib.Core.Path.{_≡_, refl, sym, _∙_, ap}
 use mathlib.Core.Bool.{Bool, true, false, not, cond, _&&_, and-true}
 use mathlib.Core.List.{List, map}
@@ -307,11 +306,17 @@ module _ (t : Tables) (s : Session) (ms : List Bool) (within : Bool) (kept rows 
     unfolding commitPlaced committed
     parts-told = rw (runs, passes-checked)
 
+    token-there : tokenOf (s .token) t ≡ hit j k
+    token-there =
+        let yes = passed-there (t .clock) (t .rate) (t .volumes) (t .tokens) (t .relays) s there k kept rows number e z i (take (s .count) places) rs r in
+        f ∙ rw yes
+
     token-row : getD (t .tokens) j blankToken ≡ k
     unfolding tokenOf
-    token-row =
-        let yes = passed-there (t .clock) (t .rate) (t .volumes) (t .tokens) (t .relays) s there k kept rows number e z i (take (s .count) places) rs r in
-        found-at (isToken (s .token)) (t .tokens) j k (f ∙ rw yes) blankToken
+    token-row = found-at (isToken (s .token)) (t .tokens) j k token-there blankToken
+
+    pub parts-token : tokenOf (s .token) t ≡ hit j (getD (t .tokens) j blankToken)
+    parts-token = rw token-row token-there
 
     pub parts-stored : (o : CommitOutcome) → i < 8 → j < 32
         → StoredBy t s (record { volume = i; token = j; places = places; relays = rs; marks = ms }) o → onCommit t o ≡ commitWithin t s

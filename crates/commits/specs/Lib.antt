@@ -2,8 +2,8 @@ pub mod Charge
 pub mod Parts
 pub mod Within
 pub mod Stored
-pub mod Verdicts
 pub mod Checks
+pub mod Verdicts
 pub mod WithinLaws
 pub mod CommitSums
 pub mod CommitSteps

@@ -56,7 +56,7 @@ unfoldable pub canStore : List Volume → List Token → Session → ℕ → ℕ
 canStore volumes tokens s i j =
     ltb i volumeRows && ltb (getD volumes i blankVolume .version) lastVersion && sessionWithin s && allOf tokenWithin tokens && ltb j tokenRows
 
--- what storing by a plan leaves: the session's puts stored, the first of the plan's places for each; or 1 and nothing changed
+-- what storing by a plan leaves: the session's puts stored, each with the plan's place of its index; or 1 and nothing changed
 pub record StoredBy (t : Tables) (s : Session) (x : Plan) (o : CommitOutcome) : Type 0 where
   pub stored : canStore (t .volumes) (t .tokens) s (x .volume) (x .token) ≡ true
       → StoredAs (t .volumes) (t .entries) (t .tokens) (x .marks) (x .volume) (getD (t .volumes) (x .volume) blankVolume)

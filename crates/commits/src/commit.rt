@@ -94,7 +94,7 @@ fn store(
 
 // A commit that its checks do not refuse is stored by their plan: the puts as they were placed, the bytes charged to the token and its ancestors,
 // the room of replaced entries given back, and a new version of the volume. 1, with all as it came, where a row is past its table, the version is at
-// its end, or the session or the tokens are past their limits.
+// its end, or the session or the tokens are past their limits. That the plan is that of a verdict on this session and these tables is the caller's to see.
 pub fn store_commit(t: Tables, s: Session, plan: Plan) -> CommitOutcome
     ensures { λ r. ⌜ StoredBy t s plan r ⌝ }
 {
@@ -176,7 +176,7 @@ fn check_found(
     }
 }
 
-// The verdict on a commit that is refused with the number: there is no plan.
+// The verdict with this number and no plan: for a refusal, so for any number but 0.
 pub fn refusing(number: u32) -> Verdict
     ensures { λ r. ⌜ r ≡ record { number = number; plan = noPlan } ⌝ }
 {
@@ -196,7 +196,7 @@ pub fn refusing(number: u32) -> Verdict
 }
 
 // The checks of a commit, over the parts of the tables that they read: the number of the refusal, or 0 with the plan to store it by. No table
-// moves, so a caller that asks first hands the tables to the storing only for a commit that is not refused.
+// changes, so a caller that asks first hands the tables to the storing only for a commit that is not refused.
 pub fn check_commit(
     clock: u64,
     rate: u16,

@@ -1,5 +1,5 @@
 // The work of commit: a session's staged puts are stored. It reads the tables and the session, and gives back what it changes.
-// Its two halves stand for themselves: the checks move no table, and the storing is for a commit that they do not refuse.
+// Its two halves stand for themselves: the checks change no table, and the storing is for a commit that they do not refuse.
 // Every public function answers for every input: past the limits that their sums rest on, the checks and the storing answer 1.
 mod answers;
 mod charge;

@@ -25,14 +25,14 @@ pub struct TokensOutcome {
 }
 
 // What a call that makes a token gives: its answer, and the new row where one is stored.
-pub struct NewToken {
+pub(crate) struct NewToken {
     pub answer: Answer,
     pub stored: bool,
     pub token: Token,
 }
 
 // What revoke gives: its answer, and the rows that go, one bit for each, the first row's lowest.
-pub struct Dropped {
+pub(crate) struct Dropped {
     pub answer: Answer,
     pub set: u32,
 }
