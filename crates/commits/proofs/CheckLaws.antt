@@ -1,5 +1,5 @@
 -- The numbers that the checks of a commit give, and what its work answers by them. Assumes nothing.
-use mathlib.Core.Path.{_≡_, refl, sym, _∙_, ap}
+use mathlib.Core.Path.{_≡_, refl, sym, _∙_}
 use mathlib.Core.Bool.{Bool, true, false, not, cond, _&&_, and-false}
 use mathlib.Core.List.{List}
 use Prim.Native.Nat.{ℕ, _*_, _<_, _≤_, _^_}
@@ -32,12 +32,14 @@ use Rattle.rows.specs.Blank.{blankVolume, blankToken}
 use Rattle.commits.specs.declared.CommitOutcome.{CommitOutcome}
 use Rattle.commits.specs.declared.Verdict.{Verdict}
 use Rattle.commits.specs.Parts.{onCommit}
-use Rattle.commits.specs.Within.{entryWithin, volumeWithin, tokenWithin, relayWithin, sessionWithin, inLimits, commitWithin}
+use Rattle.surveys.specs.RowLimits.{entryWithin, volumeWithin, tokenWithin, relayWithin, sessionWithin, canCheck}
+use Rattle.commits.specs.Within.{inLimits, commitWithin}
 use Rattle.commits.specs.Stored.{placedBy, StoredBy}
 use Rattle.commits.specs.Verdicts.{noPlan, Judged, JudgedIn, judged-refusal}
 use Rattle.rows.specs.Links.{rowIf}
 use Rattle.commits.specs.Early.{earlyToken, earlyVolume}
-use Rattle.commits.specs.Checks.{tokenFault, limitsFault, rowsFault, faultAt, faultBy, canCheck, rowsNumber, Ready, PlacedIf, RowsIf, Surveyed}
+use Rattle.surveys.specs.Survey.{Surveyed}
+use Rattle.commits.specs.Checks.{tokenFault, limitsFault, rowsFault, faultAt, faultBy, rowsNumber, Ready, PlacedIf, RowsIf}
 use Rattle.commits.specs.CommitSteps.{kept-ok, relays-ok, volumes-ok, session-ok, puts-ok, count-ok, shards-found, parts-stopped, parts-told, parts-token, parts-stored, idle-stopped}
 
 -- in the function of all checks: r said that their sums fit

@@ -2,8 +2,6 @@ pub mod FamilyLaws
 pub mod QuotaLaws
 pub mod PlaceLoops
 pub mod SizeLaws
-pub mod SurveyLaws
 pub mod CommitLaws
 pub mod CheckLaws
 pub mod StoreLaws
-pub mod WithinRows

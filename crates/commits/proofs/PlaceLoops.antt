@@ -3,10 +3,10 @@
 use mathlib.Core.Path.{_≡_, refl, sym, _∙_, ap}
 use mathlib.Core.Bool.{Bool, true, false, _&&_, _||_, cond, not}
 use mathlib.Core.List.{List, [], _∷_, _++_, map}
-use Prim.Native.Nat.{ℕ, suc, _+_, _*_, _-_, _<_, _≤_}
+use Prim.Native.Nat.{ℕ, _+_, _*_, _-_, _<_, _≤_}
 use native.Mathlib.Numerals.{add-one}
 use native.Mathlib.Omega.{arith}
-use borrow.Author.Tests.{le-leb, leb-true, le-ltb, eqb-true, not-true, not-false}
+use borrow.Author.Tests.{le-leb, leb-true, eqb-true, not-true, not-false}
 use borrow.Author.Needs.{needs}
 use lib.Dec.{leb, ltb}
 use lib.ListN.{length, take, drop, getD, set, length-set, drop-of-length-le}
@@ -32,11 +32,11 @@ use Rattle.rules.specs.Laws.MappedLaws.{all-mapped}
 use Rattle.rules.specs.Laws.PlaceLaws.{ranked-pass, placed-on}
 use Rattle.rules.specs.Laws.TakeLaws.{all-take}
 use Rattle.placing.specs.declared.PlacedPut.{PlacedPut}
-use Rattle.placing.specs.Room.{canLoadAll, mostBytes, mostShards}
+use Rattle.placing.specs.Room.{canLoadAll}
 use Rattle.placing.specs.Put.{notPlaced, tookPlace, placedPut}
 use Rattle.placing.specs.PutLaws.{can-load-all, put-placed, put-refused}
-use Rattle.commits.specs.Within.{relayWithin, putWithin}
-use Rattle.commits.proofs.QuotaLaws.{part-size}
+use Rattle.surveys.specs.RowLimits.{relayWithin, putWithin}
+use Rattle.surveys.specs.SurveyedLaws.{part-size}
 
 -- after i puts a relay in use holds no more bytes and shards than they can have added
 unfoldable pub roomLeft : ℕ → Relay → Bool

@@ -4,12 +4,10 @@ use mathlib.Core.Bool.{Bool, true, false, cond, or-false}
 use mathlib.Core.List.{List, [], _∷_, map}
 use Prim.Native.Nat.{ℕ, zero, suc, _+_, _<_, _≤_, _^_}
 use native.Mathlib.Omega.{arith}
-use mir.Val.{Fits}
-use mir.Syntax.{w64}
 use borrow.Author.Tests.{leb-true, ne-eqb}
 use borrow.Author.Needs.{needs}
 use lib.Dec.{eqb}
-use lib.ListN.{length, getD, set, take, drop, replicate, length-take, length-drop, length-map, length-replicate, getD-replicate}
+use lib.ListN.{length, getD, set, take, drop, replicate, length-drop, length-map, length-replicate, getD-replicate}
 use lib.Seq.{getD-drop}
 use Rattle.lists.specs.Lists.{allOf, anyOf}
 use Rattle.lists.specs.AnswerLaws.{part-fails}
@@ -26,7 +24,8 @@ use Rattle.rules.specs.Commit.{charged}
 use Rattle.rows.specs.Blank.{blankToken}
 use Rattle.rows.specs.Links.{tokenNumber}
 use Rattle.commits.specs.Charge.{numbersOf}
-use Rattle.commits.specs.Within.{tokenWithin}
+use Rattle.surveys.specs.RowLimits.{tokenWithin}
+use Rattle.surveys.specs.SurveyedLaws.{part-size}
 
 take-map : {A B : Type 0} (f : A → B) (n : ℕ) (l : List A) → take n (map f l) ≡ map f (take n l)
 take-map f zero l = refl
@@ -105,10 +104,6 @@ unfolding tokenWithin
 token-most l i d u w e h =
     let k = getD l i d in
     leb-true (k .used) usedLimit (other-part (freeToken k) _ (ne-eqb (k .no .0) 0 u) (all-at tokenWithin l w i (omega arith) d))
-
--- the first rows of a table, as many as there are
-pub part-size : {A : Type 0} (l : List A) (k n : ℕ) → k ≤ n → length l ≡ n → length (take k l) ≡ k
-part-size l k n h e = omega (arith, length-take k l)
 
 -- the loop that stores the numbers
 pub least-part : {A B : Type 0} (f : A → B) (l : List A) (k n : ℕ) → k ≤ n → length l ≡ n → k ≤ length (map f l)

@@ -22,9 +22,9 @@ use Rattle.rents.specs.declared.Rent.{Rent}
 use Rattle.rents.specs.declared.Rent.the-variants.{Coins, PastLimits}
 use Rattle.rents.specs.Within.{rentWithin}
 use Rattle.rents.specs.WithinLaws.{rent-within}
-use Rattle.commits.specs.Within.{putWithin}
+use Rattle.surveys.specs.RowLimits.{putWithin}
 use Rattle.commits.specs.CommitSums.{staged-small}
-use Rattle.commits.proofs.QuotaLaws.{part-size}
+use Rattle.surveys.specs.SurveyedLaws.{part-size}
 
 -- a sum over the first rows of a table: the row's number is added, and the sum is no more than the whole
 module _ {A : Type 0} (d : A) (f : A → ℕ) (l : List A) (k n i sum : ℕ) (h : SumLoop f (take k l) n i sum) (w : i < n) where

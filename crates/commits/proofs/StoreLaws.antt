@@ -19,8 +19,8 @@ use Rattle.rows.specs.Blank.{blankVolume, blankToken}
 use Rattle.commits.specs.declared.CommitOutcome.{CommitOutcome}
 use Rattle.commits.specs.declared.Plan.{Plan}
 use Rattle.commits.specs.Parts.{onCommit}
-use Rattle.commits.specs.Within.{tokenWithin, putWithin, sessionWithin}
-use Rattle.commits.specs.Stored.{StoredAs, canStore, StoredBy}
+use Rattle.surveys.specs.RowLimits.{tokenWithin, putWithin, sessionWithin, canStore}
+use Rattle.commits.specs.Stored.{StoredAs, StoredBy}
 use Rattle.commits.specs.CommitSteps.{puts-ok, count-ok}
 
 -- r said whether the puts can be stored

@@ -1,31 +1,27 @@
 -- The checks of a running session's commit over the parts of the tables that they read, as the number of the refusal, or 0 where all pass; and what is
--- known where they pass, and of the entries. Number 19, for an idle slot, stands before them in `commitWithin`. Assumes nothing.
+-- known where they pass. Number 19, for an idle slot, stands before them in `commitWithin`. Assumes nothing.
 use mathlib.Core.Path.{_≡_}
-use mathlib.Core.Bool.{Bool, true, _&&_, cond, not}
-use mathlib.Core.List.{List, [], _∷_, map}
-use Prim.Native.Nat.{ℕ, _+_, _*_, _≤_, _^_}
+use mathlib.Core.Bool.{true, cond, not}
+use mathlib.Core.List.{List, [], _∷_}
+use Prim.Native.Nat.{ℕ, _+_, _≤_}
 use lib.Dec.{eqb, leb, ltb}
 use lib.ListN.{getD}
-use Rattle.lists.specs.Lists.{Hit, miss, hit, find, allOf, anyOf, countIf}
-use Rattle.rules.specs.declared.VolumeNo.{VolumeNo}
+use Rattle.lists.specs.Lists.{Hit, miss, hit, find, allOf, anyOf}
 use Rattle.rules.specs.declared.Placement.{Placement}
 use Rattle.rules.specs.declared.Volume.{Volume}
-use Rattle.rules.specs.declared.Entry.{Entry}
 use Rattle.rules.specs.declared.Token.{Token}
 use Rattle.rules.specs.declared.Relay.{Relay}
-use Rattle.rules.specs.declared.Put.{Put}
 use Rattle.rules.specs.declared.Session.{Session}
 use Rattle.rules.specs.Limits.{putRows, entryRows, lastVersion}
 use Rattle.rules.specs.Numbers.{BAD, NO-VOLUME, NO-TOKEN, WINDOW, STATE, CONFLICT, SPENT, QUOTA, SIZE, ROOM, RENT, NO-PLACE}
-use Rattle.rules.specs.Tables.{staged, usedEntry, inVolume, isVolume}
+use Rattle.rules.specs.Tables.{staged, isVolume}
 use Rattle.rules.specs.Scope.{inWindow, passesCap, passesQuota, family}
 use Rattle.rules.specs.Sound.{shardsFit}
 use Rattle.rules.specs.Rent.{rentFor}
 use Rattle.rules.specs.VolumeCalls.{isActive}
-use Rattle.rules.specs.Commit.{Placed, noPlace, placed, stagedBytes, isReplaced, isNewPath, placeAll}
+use Rattle.rules.specs.Commit.{Placed, noPlace, placed, stagedBytes, placeAll}
 use Rattle.rows.specs.Blank.{blankVolume}
-use Rattle.commits.specs.Within.{volumeWithin, entryWithin, relayWithin, putWithin, sessionWithin}
-use Rattle.commits.specs.Stored.{keptBytes}
+use Rattle.surveys.specs.RowLimits.{relayWithin, putWithin, canCheck}
 
 -- 5: "clock outside the token's window"; 8: "status doesn't allow the call"; 9: "volume's version isn't the one at opening"; 21: the version has
 -- reached its end
@@ -71,10 +67,6 @@ unfoldable pub faultBy : ℕ → ℕ → List Token → List Relay → Session �
 faultBy clock rate tokens relays s kept rows h miss = NO-VOLUME
 faultBy clock rate tokens relays s kept rows h (hit i v) = faultAt clock rate tokens relays s kept rows v h
 
--- the limits that the sums of the checks rest on
-unfoldable pub canCheck : List Volume → List Relay → Session → ℕ → Bool
-canCheck volumes relays s kept = sessionWithin s && allOf volumeWithin volumes && allOf relayWithin relays && leb kept (64 * 2 ^ 36)
-
 -- 1, then by the rows, where h is the token's row
 unfoldable pub rowsNumber : ℕ → ℕ → List Volume → List Token → List Relay → Session → Hit Token → ℕ → ℕ → ℕ
 rowsNumber clock rate volumes tokens relays s h kept rows =
@@ -95,22 +87,3 @@ pub record PlacedIf (number clock : ℕ) (relays : List Relay) (s : Session) (v 
 pub record RowsIf (number clock : ℕ) (volumes : List Volume) (relays : List Relay) (s : Session) (i : ℕ) (places : List Placement) (rs : List Relay) : Type 0 where
   pub volume : number ≡ 0 → find (isVolume (s .volume)) volumes ≡ hit i (getD volumes i blankVolume)
   pub placing : number ≡ 0 → placingOf clock relays s (getD volumes i blankVolume) ≡ placed places rs
-
--- the bytes of an entry that stays: it is the volume's, and its mark is not set; an entry past its limit counts as nothing
-abbrev pub leftSize : VolumeNo → Bool → Entry → ℕ
-leftSize n b e = cond (entryWithin e && inVolume n e && not b) (e .size) 0
-
--- those of all entries, each with its mark
-unfoldable pub leftBytes : VolumeNo → List Bool → List Entry → ℕ
-leftBytes n [] es = 0
-leftBytes n (b ∷ bs) [] = 0
-leftBytes n (b ∷ bs) (e ∷ es) = leftSize n b e + leftBytes n bs es
-
--- what a commit reads of the entries, for the puts `ps` of the volume n: a mark for each entry that they replace, whether the entries are within
--- their limits, the bytes of the volume's entries that stay, and the entries in use with those that the puts add
-pub record Surveyed (n : VolumeNo) (ps : List Put) (es : List Entry) (marks : List Bool) (within : Bool) (kept rows : ℕ) : Type 0 where
-  pub replaced : marks ≡ map (isReplaced n ps) es
-  pub limits : within ≡ allOf entryWithin es
-  pub stays : within ≡ true → kept ≡ keptBytes n ps es
-  pub small : kept ≤ 64 * 2 ^ 36
-  pub room : rows ≡ countIf usedEntry es + countIf (isNewPath n es) ps

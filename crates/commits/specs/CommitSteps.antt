@@ -33,10 +33,12 @@ use Rattle.rows.specs.Blank.{blankVolume, blankToken}
 use Rattle.entries.specs.MarkLaws.{marked-keep}
 use Rattle.commits.specs.declared.CommitOutcome.{CommitOutcome}
 use Rattle.commits.specs.Parts.{onCommit}
-use Rattle.commits.specs.Within.{volumeWithin, entryWithin, tokenWithin, relayWithin, putWithin, sessionWithin, inLimits, commitWithin}
-use Rattle.commits.specs.Stored.{keptBytes, StoredAs, canStore, StoredBy}
+use Rattle.surveys.specs.RowLimits.{volumeWithin, tokenWithin, relayWithin, putWithin, sessionWithin, canStore, canCheck}
+use Rattle.commits.specs.Within.{inLimits, commitWithin}
+use Rattle.surveys.specs.Survey.{keptBytes, Surveyed}
+use Rattle.commits.specs.Stored.{StoredAs, StoredBy}
 use Rattle.rows.specs.Links.{rowIf}
-use Rattle.commits.specs.Checks.{tokenFault, limitsFault, orElse, placeFault, placingOf, rowsFault, faultAt, faultBy, canCheck, rowsNumber, RowsIf, Surveyed}
+use Rattle.commits.specs.Checks.{tokenFault, limitsFault, orElse, placeFault, placingOf, rowsFault, faultAt, faultBy, rowsNumber, RowsIf}
 use Rattle.commits.specs.CommitSums.{size-passes, rent-passes, staged-small}
 
 -- the answer by a number: the refusal with it, or the rest where it is 0

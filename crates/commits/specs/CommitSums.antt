@@ -23,8 +23,8 @@ use Rattle.rules.specs.Rent.{sizeOf, rentFor}
 use Rattle.rules.specs.Scope.{passesCap}
 use Rattle.rules.specs.Commit.{putSize, stagedBytes, isKept, sizesAfter, passesSize, belowRent}
 use Rattle.rents.specs.WithinLaws.{rent-within}
-use Rattle.commits.specs.Within.{putWithin}
-use Rattle.commits.specs.Stored.{keptBytes}
+use Rattle.surveys.specs.RowLimits.{putWithin}
+use Rattle.surveys.specs.Survey.{keptBytes}
 
 -- the staged sizes
 module _ (puts : List Put) (count : ℕ) (few : count ≤ 8) (fit : allOf putWithin (take count puts) ≡ true) where

@@ -1,5 +1,5 @@
 -- The first checks of a commit, which read the volumes and the tokens and neither the entries nor the relays: "19 2 4 5 8 9 21". Assumes nothing.
-use mathlib.Core.Path.{_≡_, refl, sym, _∙_}
+use mathlib.Core.Path.{_≡_, sym}
 use mathlib.Core.Bool.{Bool, true, false, cond, not}
 use mathlib.Core.List.{List}
 use Prim.Native.Nat.{ℕ}

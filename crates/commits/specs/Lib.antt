@@ -7,5 +7,4 @@ pub mod Verdicts
 pub mod WithinLaws
 pub mod CommitSums
 pub mod CommitSteps
-pub mod SurveyedLaws
 pub mod Early

@@ -1,12 +1,9 @@
 -- Parts of the rule of commit under names of their own, as the code has them. Assumes nothing.
 use mathlib.Core.Path.{_≡_}
-use mathlib.Core.Bool.{Bool, true, false, _&&_, cond}
+use mathlib.Core.Bool.{Bool, true, false, cond}
 use mathlib.Core.List.{List, map}
 use Prim.Native.Nat.{ℕ, _+_}
-use lib.Dec.{ltb}
 use lib.ListN.{take, getD, set}
-use Rattle.lists.specs.Lists.{allOf, keep, total}
-use Rattle.rules.specs.declared.VolumeNo.{VolumeNo}
 use Rattle.rules.specs.declared.Placement.{Placement}
 use Rattle.rules.specs.declared.Volume.{Volume}
 use Rattle.rules.specs.declared.Entry.{Entry}
@@ -15,29 +12,23 @@ use Rattle.rules.specs.declared.Relay.{Relay}
 use Rattle.rules.specs.declared.Put.{Put}
 use Rattle.rules.specs.declared.Session.{Session}
 use Rattle.rules.specs.declared.Tables.{Tables}
-use Rattle.rules.specs.Limits.{volumeRows, tokenRows, lastVersion}
 use Rattle.rules.specs.Numbers.{BAD}
 use Rattle.rules.specs.Fresh.{freshSession}
 use Rattle.rules.specs.Tables.{withVersion}
 use Rattle.rules.specs.Scope.{family}
 use Rattle.rules.specs.Relays.{lightened}
-use Rattle.rules.specs.Rent.{sizeOf}
 use Rattle.rules.specs.Outcome.{success, slotRefused}
-use Rattle.rules.specs.Commit.{Placed, noPlace, placed, isKept, storeAll, charged, stagedBytes}
+use Rattle.rules.specs.Commit.{Placed, noPlace, placed, storeAll, charged, stagedBytes}
 use Rattle.rows.specs.Blank.{blankVolume, blankToken}
 use Rattle.entries.specs.Marks.{marked}
 use Rattle.commits.specs.declared.CommitOutcome.{CommitOutcome}
 use Rattle.commits.specs.declared.Plan.{Plan}
 use Rattle.commits.specs.Parts.{onCommit}
-use Rattle.commits.specs.Within.{tokenWithin, sessionWithin}
+use Rattle.surveys.specs.RowLimits.{canStore}
 
 -- what placing the puts came to: the placements, one for each put, and the relay table after them
 abbrev pub placedBy : Bool → List Placement → List Relay → Placed
 placedBy b places rs = cond b (placed places rs) noPlace
-
--- the bytes of the volume's entries that stay
-unfoldable pub keptBytes : VolumeNo → List Put → List Entry → ℕ
-keptBytes n ps es = total (map sizeOf (keep (isKept n ps) es))
 
 -- what an accepted commit leaves, part by part, where the marked entries are replaced, v is the volume at row i, k the token, and `rs` are the relays
 -- after the placing
@@ -49,12 +40,6 @@ pub record StoredAs (volumes : List Volume) (entries : List Entry) (tokens : Lis
   pub charges : o .tokens ≡ map (charged (family tokens k) (stagedBytes ps)) tokens
   pub lighter : o .relays ≡ map (lightened volumes (marked marks entries)) rs
   pub freed : o .session ≡ freshSession
-
--- what storing rests on: the volume's row i and the token's row j are in the tables, the volume's version is not the last, and the session and the tokens
--- are within their limits
-unfoldable pub canStore : List Volume → List Token → Session → ℕ → ℕ → Bool
-canStore volumes tokens s i j =
-    ltb i volumeRows && ltb (getD volumes i blankVolume .version) lastVersion && sessionWithin s && allOf tokenWithin tokens && ltb j tokenRows
 
 -- what storing by a plan leaves: the session's puts stored, each with the plan's place of its index; or 1 and nothing changed
 pub record StoredBy (t : Tables) (s : Session) (x : Plan) (o : CommitOutcome) : Type 0 where

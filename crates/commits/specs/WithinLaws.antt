@@ -1,14 +1,11 @@
 -- A sound desk is within the limits that a commit's sums rest on, so there the work of a commit is its rule. Assumes nothing.
-use mathlib.Core.Path.{_≡_, refl, sym, _∙_}
-use mathlib.Core.Bool.{Bool, true, false, not, cond, _&&_, _||_}
-use mathlib.Core.List.{List}
-use Prim.Native.Nat.{ℕ, _+_, _≤_}
+use mathlib.Core.Path.{_≡_, refl}
+use mathlib.Core.Bool.{Bool, true, false}
 use native.Mathlib.Omega.{arith}
 use borrow.Author.Tests.{le-leb, leb-true}
 use lib.Dec.{leb}
 use lib.ListN.{length}
-use Rattle.lists.specs.Lists.{allOf}
-use Rattle.lists.specs.BoolLaws.{and-left, and-right, and-both}
+use Rattle.lists.specs.BoolLaws.{and-right, and-both}
 use Rattle.lists.specs.TestLaws.{all-weaker}
 use Rattle.text.specs.Text.{holds, isPath}
 use Rattle.rules.specs.declared.Volume.{Volume}
@@ -26,7 +23,8 @@ use Rattle.rules.specs.Laws.RowFacts.{volume-facts, entry-facts, token-facts, r
 use Rattle.rules.specs.Laws.SoundParts.{parts-of}
 use Rattle.rules.specs.Commit.{commitRule}
 use Rattle.placing.specs.PutLaws.{fewHeld, sound-few}
-use Rattle.commits.specs.Within.{volumeWithin, entryWithin, tokenWithin, relayWithin, putWithin, sessionWithin, inLimits, commitWithin}
+use Rattle.surveys.specs.RowLimits.{volumeWithin, entryWithin, tokenWithin, relayWithin, putWithin, sessionWithin}
+use Rattle.commits.specs.Within.{inLimits, commitWithin}
 
 module _ (t : Tables) where
   volume-in : (v : Volume) → soundVolume t v ≡ true → volumeWithin v ≡ true

@@ -8,7 +8,7 @@ ghost use Rattle.rules.specs.Tables.{numbered, withUsed};
 ghost use Rattle.rules.specs.Scope.{family};
 ghost use Rattle.rules.specs.Commit.{charged};
 ghost use Rattle.commits.specs.Charge.{numbersOf};
-ghost use Rattle.commits.specs.Within.{tokenWithin};
+ghost use Rattle.surveys.specs.RowLimits.{tokenWithin};
 use super::family::Family;
 use super::family::family_of;
 use rows::is_number;

@@ -20,7 +20,6 @@ use super::placings::no_places;
 use super::placings::place_all;
 use super::sizes::below_rent;
 use super::sizes::staged_bytes;
-use super::within::can_check;
 use lists::Found;
 use rows::find_token;
 use rows::find_volume;
@@ -43,6 +42,7 @@ use rules::numbers::SIZE;
 use rules::numbers::SPENT;
 use rules::numbers::STATE;
 use rules::numbers::WINDOW;
+use surveys::can_check;
 
 // What the checks of a running session's commit give: the number of the refusal, or 0; where it is 0, the row of the volume, and the placements.
 pub(crate) struct Checked {

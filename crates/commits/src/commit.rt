@@ -8,7 +8,8 @@ ghost use Rattle.rules.specs.Limits.{lastVersion};
 ghost use Rattle.rules.specs.Tables.{isToken};
 ghost use Rattle.rows.specs.Blank.{blankVolume, blankToken};
 ghost use Rattle.commits.specs.Parts.{onCommit};
-ghost use Rattle.commits.specs.Within.{tokenWithin, putWithin, commitWithin};
+ghost use Rattle.surveys.specs.RowLimits.{tokenWithin, putWithin};
+ghost use Rattle.commits.specs.Within.{commitWithin};
 ghost use Rattle.rows.specs.Links.{rowIf};
 ghost use Rattle.commits.specs.Checks.{rowsNumber, RowsIf};
 ghost use Rattle.commits.specs.Stored.{StoredAs, StoredBy};
@@ -21,9 +22,6 @@ use super::charge::charge;
 use super::checks::Checked;
 use super::checks::check_rows;
 use super::sizes::staged_bytes;
-use super::surveys::survey;
-use super::within::can_store;
-use super::within::others_within;
 use entries::any_mark;
 use entries::give_back;
 use entries::store_all;
@@ -38,6 +36,9 @@ use rules::TokenNo;
 use rules::Volume;
 use rules::numbers::BAD;
 use rules::numbers::SESSION;
+use surveys::can_store;
+use surveys::others_within;
+use surveys::survey;
 
 // The storing, where it can be done. Without puts the entries are not handed on, and where nothing is replaced no room is given back.
 fn store(

@@ -8,8 +8,6 @@ mod commit;
 mod family;
 mod placings;
 mod sizes;
-mod surveys;
-mod within;
 
 pub use checks::early_refusal;
 pub use commit::check_commit;

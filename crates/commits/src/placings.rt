@@ -6,7 +6,7 @@ ghost use lib.ListN.{take};
 ghost use Rattle.lists.specs.Lists.{allOf};
 ghost use Rattle.rules.specs.Sound.{shardsFit};
 ghost use Rattle.rules.specs.Commit.{placeAll};
-ghost use Rattle.commits.specs.Within.{relayWithin, putWithin};
+ghost use Rattle.surveys.specs.RowLimits.{relayWithin, putWithin};
 ghost use Rattle.commits.specs.Stored.{placedBy};
 use placing::place_put;
 use rules::Placement;

@@ -9,7 +9,7 @@ ghost use Rattle.lists.specs.Lists.{allOf};
 ghost use Rattle.rules.specs.Rent.{rentFor};
 ghost use Rattle.rules.specs.Sound.{shardsFit};
 ghost use Rattle.rules.specs.Commit.{stagedBytes};
-ghost use Rattle.commits.specs.Within.{putWithin};
+ghost use Rattle.surveys.specs.RowLimits.{putWithin};
 use rents::Rent;
 use rents::rent_of;
 use rules::Put;

@@ -4,7 +4,7 @@
 mod sound_work;
 
 ghost use mathlib.Core.Path.{_≡_};
-ghost use Rattle.tokens.specs.Parts.{scopeArg};
+ghost use Rattle.scopes.specs.Arguments.{scopeArg};
 ghost use Rattle.rules.specs.Calls.{Ask, Work, Call, step};
 use amount::Cap;
 use parts::answered;

@@ -1,8 +1,8 @@
 -- What a slice of bytes gives its readers. Assumes nothing.
 use mathlib.Core.Path.{_≡_, refl, sym, _∙_, ap}
 use mathlib.Core.Bool.{true}
-use mathlib.Core.List.{List, [], _∷_}
-use Prim.Native.Nat.{ℕ, zero, suc, _+_, _-_, _*_, _^_, _<_, _≤_}
+use mathlib.Core.List.{List}
+use Prim.Native.Nat.{ℕ, suc, _+_, _-_, _*_, _^_, _<_, _≤_}
 use native.Mathlib.Nat.{pow-le-pow-right, add-sub-cancel-left}
 use native.Mathlib.Numerals.{add-one}
 use native.Mathlib.Omega.{arith}
@@ -10,7 +10,7 @@ use lib.Dec.{lit<}
 use lib.Pow.{areBytes}
 use lib.ListN.{length, take, drop, getD, length-drop}
 use lib.Seq.{take-suc, take-all, length-take-le}
-use borrow.Author.Tests.{lt-ltb, le-leb, lt-leb}
+use borrow.Author.Tests.{le-leb, lt-leb}
 use borrow.Author.Needs.{needs}
 use mir.Syntax.{w8, w64}
 use mir.Val.{Fits}
@@ -18,13 +18,8 @@ use Rattle.journal.specs.declared.Number.the-variants.{Value, Cut}
 use Rattle.journal.specs.Numbers.{numberOf}
 use Rattle.journal.specs.NumberLaws.{numberOf-snoc, numberOf-lt}
 use Rattle.journal.specs.Fields.{decodeNumber, part, nothing, found}
-use Rattle.journal.specs.FieldLaws.{bytes-take}
+use Rattle.journal.specs.FieldLaws.{bytes-take, bytes-known}
 use Rattle.journal.specs.Table.{numberAt, asAnswer}
-
--- a list whose elements are bytes
-pub bytes-known : (l : List ℕ) → ((k : ℕ) → getD l k 0 < 256) → areBytes l ≡ true
-bytes-known [] h = refl
-bytes-known (b ∷ l) h = rw (lt-ltb b 256 (h zero)) (bytes-known l (λ k. h (suc k)))
 
 -- the number of fewer than eight bytes of a list has room for one more byte
 pub number-part-fits : (l : List ℕ) (i : ℕ) → areBytes l ≡ true → i < length l → length l ≤ 8 → numberOf (take i l) * 256 + 255 < 2 ^ 64

@@ -27,7 +27,7 @@ use Rattle.journal.specs.FieldLaws.{bytes-drop}
 use Rattle.journal.specs.Records.{v01}
 use Rattle.journal.specs.Places.{place}
 use Rattle.journal.specs.Table.{numberAt, widthOf, placeNumber, stepNumber, stepTo}
-use Rattle.journal.proofs.ByteLaws.{bytes-known}
+use Rattle.journal.specs.FieldLaws.{bytes-known}
 use Rattle.journal.proofs.StepLaws.{Valued, valued, not-there, valued-lt, step-found, step-nothing, part-none, part-some, text-cut, text-long, text-short, withText, step-text, mode-cut, mode-at, length-mode, cap-cut, cap-at, length-unlimited, length-count}
 
 -- ---- an account and a hash: 32 bytes

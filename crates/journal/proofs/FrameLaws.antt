@@ -19,7 +19,7 @@ use Rattle.journal.specs.Records.{v01}
 use Rattle.journal.specs.Places.{RECORD, readAt, padded32}
 use Rattle.journal.specs.Journal.{journalMost, TOO-LARGE, VERSION, framed, startFault, versionFault, onBody, onReading, nextIn}
 use Rattle.journal.specs.Table.{numberAt}
-use Rattle.journal.proofs.ByteLaws.{bytes-known}
+use Rattle.journal.specs.FieldLaws.{bytes-known}
 use Rattle.journal.proofs.StepLaws.{Valued, valued, valued-lt, not-there, text-cut, text-short, text-full}
 
 -- ---- the start of a journal

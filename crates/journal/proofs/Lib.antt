@@ -5,7 +5,3 @@ pub mod FieldReads
 pub mod ReadLaws
 pub mod FrameLaws
 pub mod PartLaws
-pub mod OverLaws
-pub mod SizeLaws
-pub mod WriteLaws
-pub mod PutLaws

@@ -25,10 +25,11 @@ use Rattle.journal.specs.FieldLaws.{decode-taken, bytes-drop}
 use Rattle.journal.specs.Records.{Version, v01, formatOf, formsOf, fieldsOf, kinds, kindAmong, whole, parse, parseKind}
 use Rattle.journal.specs.Places.{RECORD, blank, place, readingOf, readAt}
 use Rattle.journal.specs.PlaceLaws.{past}
-use Rattle.journal.specs.Table.{named, namedBy, padded, fieldsMost, stepTo, ending, readOn}
+use Rattle.journal.specs.Table.{named, padded, fieldsMost, stepTo, ending, readOn}
 use Rattle.journal.specs.declared.Named.{Named}
 use Rattle.journal.specs.declared.Named.the-variants as a
-use Rattle.journal.proofs.ByteLaws.{bytes-known}
+use Rattle.journal.specs.FieldLaws.{bytes-known}
+use Rattle.journal.specs.TableLaws.{named-kind, named-none}
 
 -- what the first field of a list leaves to the others
 front : (v : Version) (f : Field) (fs : List Field) (at : ℕ) (r : Record) (x : ValueOf (formatOf v f)) (d : Decoded (ValuesOf (formsOf v fs)))
@@ -107,14 +108,6 @@ read-kind b l k e = ap (λ (o : Option Kind). readingOf v01 (parseKind v01 o l))
 read-unknown : (b : ℕ) (l : List ℕ) → kindAmong b (kinds v01) ≡ none → readAt v01 (b ∷ l) ≡ answer.Refused RECORD
 unfolding readAt parse
 read-unknown b l e = ap (λ (o : Option Kind). readingOf v01 (parseKind v01 o l)) e
-
-pub named-kind : (o : Option Kind) (k : Kind) → a.Kind k ≡ namedBy o → o ≡ some k
-named-kind none k e = cc
-named-kind (some j) k e = let z : k ≡ j = cc in ap some (sym z)
-
-pub named-none : (o : Option Kind) → a.Unknown ≡ namedBy o → o ≡ none
-named-none none e = refl
-named-none (some j) e = cc
 
 -- what the first byte decides, if there is one
 pub read-empty : (l : List ℕ) → length l < 1 → readAt v01 l ≡ answer.Refused RECORD

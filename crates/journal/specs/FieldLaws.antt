@@ -1,13 +1,13 @@
 -- The laws of fields: what is written reads back, and what was read is written as the same bytes. One pair of laws for all forms, and the same
 -- pair for lists of fields. Assumes nothing.
 use mathlib.Core.Path.{_≡_, refl, sym, _∙_, ap}
-use mathlib.Core.Bool.{Bool, true, false, _&&_, cond}
-use mathlib.Core.List.{List, [], _∷_, _++_, append-assoc, append-nil}
+use mathlib.Core.Bool.{Bool, true, false, cond}
+use mathlib.Core.List.{List, [], _∷_, _++_, append-assoc}
 use Prim.Native.Nat.{ℕ, zero, suc, _+_, _^_, _<_, _≤_}
 use native.Mathlib.Omega.{arith}
 use lib.Dec.{eqb, leb, ltb, lit<}
 use lib.Pow.{areBytes}
-use lib.ListN.{length, take, drop, length-append, take-append-drop}
+use lib.ListN.{length, take, drop, getD, length-append, take-append-drop}
 use lib.Seq.{take-at, drop-at, length-take-le}
 use borrow.Author.Tests.{ltb-true, leb-true, eqb-true, lt-ltb, le-leb, eq-eqb}
 use Rattle.amount.specs.declared.Cap.{Cap}
@@ -94,6 +94,11 @@ pub bytes-take : (n : ℕ) (l : List ℕ) → areBytes l ≡ true → areBytes (
 bytes-take zero l h = refl
 bytes-take (suc n) [] h = refl
 bytes-take (suc n) (b ∷ l) h = rw (and-left (ltb b 256) (areBytes l) h) (bytes-take n l (and-right (ltb b 256) (areBytes l) h))
+
+-- a list whose elements are bytes
+pub bytes-known : (l : List ℕ) → ((k : ℕ) → getD l k 0 < 256) → areBytes l ≡ true
+bytes-known [] h = refl
+bytes-known (b ∷ l) h = rw (lt-ltb b 256 (h zero)) (bytes-known l (λ k. h (suc k)))
 
 pub bytes-drop : (n : ℕ) (l : List ℕ) → areBytes l ≡ true → areBytes (drop n l) ≡ true
 bytes-drop zero l h = h

@@ -7,6 +7,7 @@ pub mod RecordLaws
 pub mod Places
 pub mod PlaceLaws
 pub mod Table
+pub mod TableLaws
 pub mod Journal
 pub mod JournalLaws
 pub mod Writes

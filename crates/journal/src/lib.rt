@@ -1,4 +1,4 @@
-// The journal of document 01: records read and written.
+// The journal of document 01: records read, and what their reader and their writer (the crate journal_writer) share.
 //
 // A record is a kind and the kind's list of fields. One table gives the lists; the reader and the writer go by it, so no
 // kind has code of its own. The definitions are in specs/: Numbers and Fields (the parts of a record), Records (the table
@@ -9,7 +9,6 @@ mod parts;
 mod reader;
 mod records;
 mod table;
-mod write;
 
 use amount::Cap;
 pub use frame::next_record;
@@ -17,9 +16,13 @@ pub use frame::start_fault;
 pub use parts::account_of;
 pub use parts::hash_of;
 pub use parts::text_of;
+pub use reader::TEXT_MOST;
+pub use reader::TEXT_WIDTH;
 pub use records::read_record;
 use rules::Mode;
-pub use write::write_record;
+pub use table::field_count;
+pub use table::fields_of;
+pub use table::kind_named;
 
 // 27: a record that is cut or does not fit, an unknown kind, cap byte or mode.
 pub const RECORD: u32 = 27;

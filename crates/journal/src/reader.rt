@@ -15,9 +15,9 @@ use amount::Cap;
 use rules::Mode;
 
 // A text has at most so many bytes, after a length of so many.
-pub(crate) const TEXT_MOST: u64 = 255;
+pub const TEXT_MOST: u64 = 255;
 
-pub(crate) const TEXT_WIDTH: usize = 1;
+pub const TEXT_WIDTH: usize = 1;
 
 // How many bytes a field has that is a number, and 0 for the others.
 pub(crate) fn width(f: Field) -> usize

@@ -212,7 +212,7 @@ fn written_in(kind: u8, text: &[u8], mode: u8, buf: &mut [u8]) {
         from: 10,
         until: 20,
     };
-    let w = journal::write_record(d, text, buf);
+    let w = journal_writer::write_record(d, text, buf);
     field(b"write ", w.number as u64);
     field(b" ", w.len as u64);
     word(b" ");

@@ -32,10 +32,10 @@ use Rattle.rules.specs.declared.Relay.{Relay}
 use Rattle.rules.specs.Relays.{holdsShard}
 use Rattle.rows.specs.Blank.{blankEntry, blankRelay}
 use Rattle.lists.specs.ByteLoopLaws.{FillLoop}
-use Rattle.soundness.specs.Numbers.{relayNumber}
-use Rattle.soundness.specs.Places.{sameNumber, placeNumbers, placesOf}
-use Rattle.soundness.proofs.PlaceLaws.{place-among}
-use Rattle.soundness.proofs.FillLaws.{fill-zero, fill-stored}
+use Rattle.sound_rows.specs.Numbers.{relayNumber}
+use Rattle.sound_rows.specs.Places.{sameNumber, placeNumbers, placesOf}
+use Rattle.sound_rows.specs.PlaceNumbers.{place-among}
+use Rattle.sound_rows.specs.FillLaws.{fill-zero, fill-stored}
 use Rattle.soundness.specs.Held.{onPlace, heldSet, ByRemainder, RowTable}
 
 -- sets that agree on each row

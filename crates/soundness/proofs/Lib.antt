@@ -1,10 +1,3 @@
-pub mod FieldLaws
-pub mod FillLaws
 pub mod HeldLaws
-pub mod KeyLaws
-pub mod NumberLaws
-pub mod PlaceLaws
-pub mod PutKeyLaws
-pub mod RemainderLaws
+pub mod RelayLaws
 pub mod ShardLaws
-pub mod Told

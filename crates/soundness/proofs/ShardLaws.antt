@@ -32,10 +32,10 @@ use Rattle.rules.specs.Relays.{shardSize, shardBytes, holdsShard, bytesOn, shar
 use Rattle.rules.specs.Sound.{isGiven, shardsFit, soundStatus, soundVolume, soundVolumes, sameVolume, sameName, soundIn, soundEntry, soundEntries, sameEntry}
 use Rattle.rules.specs.Laws.CeilLaws.{ceil-most}
 use Rattle.rows.specs.ShardBytes.{shard-none, shard-some, bytes-none, bytes-at}
-use Rattle.soundness.specs.Numbers.{volumeNumber, volumeK, relayNumber}
+use Rattle.sound_rows.specs.Numbers.{volumeNumber, volumeK, relayNumber}
 use Rattle.soundness.specs.Held.{heldSet}
-use Rattle.soundness.proofs.FillLaws.{fill-zero, fill-stored}
-use Rattle.soundness.proofs.FieldLaws.{in-rows, field-at}
+use Rattle.sound_rows.specs.FillLaws.{fill-zero, fill-stored}
+use Rattle.sound_rows.specs.FieldLaws.{in-rows, field-at}
 use Rattle.soundness.proofs.HeldLaws.{held-told, held-among}
 use Rattle.rows.specs.Blank.{blankVolume, blankEntry, blankRelay}
 

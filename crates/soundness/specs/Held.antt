@@ -7,7 +7,7 @@ use lib.ListN.{length, getD}
 use Rattle.lists.specs.Lists.{anyOf, noClash, bitSet}
 use Rattle.rules.specs.declared.Entry.{Entry}
 use Rattle.rules.specs.Tables.{numbered}
-use Rattle.soundness.specs.Places.{placesOf}
+use Rattle.sound_rows.specs.Places.{placesOf}
 
 -- whether the relay of this number has one of the places
 unfoldable pub onPlace : List ℕ → ℕ → Bool

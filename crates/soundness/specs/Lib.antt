@@ -1,4 +1,1 @@
-pub mod Numbers
-pub mod PathKeys
-pub mod Places
 pub mod Held

@@ -4,15 +4,15 @@ ghost use mathlib.Core.Bool.{true};
 ghost use mathlib.Core.List.{map};
 ghost use Rattle.lists.specs.Lists.{noClash, bitSet};
 ghost use Rattle.rules.specs.Tables.{numbered};
-ghost use Rattle.soundness.specs.Numbers.{relayNumber};
+ghost use Rattle.sound_rows.specs.Numbers.{relayNumber};
 ghost use Rattle.soundness.specs.Held.{onPlace, heldSet, ByRemainder, RowTable};
-use super::numbers::relay_numbers;
-use super::placements::place_numbers;
 use lists::Found;
 use rows::find_number;
 use rows::wide;
 use rules::Entry;
 use rules::Relay;
+use sound_rows::place_numbers;
+use sound_rows::relay_numbers;
 
 // For each remainder by 256 the last row whose number has it, or 0. The number of a free row is 0.
 fn rows_by(rows: [Relay; 32]) -> [usize; 256]

@@ -4,19 +4,19 @@ ghost use mathlib.Core.Bool.{true};
 ghost use mathlib.Core.List.{map};
 ghost use Rattle.lists.specs.Lists.{anyOf, noClash, sumOf};
 ghost use Rattle.rules.specs.Tables.{given, numbered};
-ghost use Rattle.soundness.specs.Numbers.{relayNumber};
+ghost use Rattle.sound_rows.specs.Numbers.{relayNumber};
 ghost use Rattle.rules.specs.Relays.{shardBytes, bytesOn, shardsOn};
 ghost use Rattle.rules.specs.Sound.{soundVolumes, soundEntries, soundRelay, soundRelays};
 use super::held::relay_sets;
-use super::numbers::any_number;
-use super::numbers::numbers_differ;
-use super::numbers::relay_numbers;
 use super::shards::Load;
 use super::shards::shard_sizes;
 use rows::in_set;
 use rows::is_given;
 use rules::Relay;
 use rules::Tables;
+use sound_rows::any_number;
+use sound_rows::numbers_differ;
+use sound_rows::relay_numbers;
 
 // A row, where the entries have this load on the relay.
 fn sound_relay(t: Tables, x: Relay, load: Load) -> bool

@@ -5,14 +5,14 @@ ghost use lib.ListN.{length};
 ghost use Rattle.rules.specs.declared.Entry.{Entry};
 ghost use Rattle.rules.specs.declared.Volume.{Volume};
 ghost use Rattle.rules.specs.Relays.{shardBytes};
-ghost use Rattle.soundness.specs.Numbers.{volumeNumber, volumeK};
-use super::numbers::volume_ks;
-use super::numbers::volume_numbers;
+ghost use Rattle.sound_rows.specs.Numbers.{volumeNumber, volumeK};
 use lists::Found;
 use rows::find_number;
 use rows::shard_size;
 use rows::wide;
 use rules::Tables;
+use sound_rows::volume_ks;
+use sound_rows::volume_numbers;
 
 // The bytes and the shards that a relay has.
 pub(crate) struct Load {

@@ -1,12 +1,12 @@
 // The tables: the counts, then each table in turn.
 ghost use mathlib.Core.Path.{_≡_};
 ghost use Rattle.rules.specs.Sound.{soundCounts, soundTables};
-use super::entry_test::sound_entries;
 use super::relay_test::any_relays;
 use super::relay_test::sound_relays;
-use super::token_test::sound_tokens;
-use super::volume_test::sound_volumes;
 use rules::Tables;
+use sound_rows::sound_entries;
+use sound_rows::sound_tokens;
+use sound_rows::sound_volumes;
 
 // The clock up to 2^40, deposits up to 10^18, and the last numbers up to 65,535.
 fn sound_counts(t: Tables) -> bool

@@ -1,5 +1,5 @@
 -- The scope that a call names, and the scope that a token keeps of it. Assumes nothing.
-use mathlib.Core.Path.{_≡_, _∙_}
+use mathlib.Core.Path.{_≡_}
 use mathlib.Core.Bool.{Bool, true, false, not, _&&_}
 use mathlib.Core.List.{List}
 use Prim.Native.Nat.{ℕ}
@@ -12,9 +12,8 @@ use Rattle.text.specs.declared.Text.{Text}
 use Rattle.text.specs.Text.{pathLimit, isPrefix, toText}
 use Rattle.text.specs.TextLaws.{prefix-fits}
 use Rattle.rules.specs.declared.Mode.{Mode}
-use Rattle.rules.specs.declared.Scope.{Scope}
 use Rattle.rules.specs.Scope.{toScope}
-use Rattle.tokens.specs.Parts.{scopeArg}
+use Rattle.scopes.specs.Arguments.{scopeArg}
 
 -- a prefix that is one is kept whole
 pub whole-scope : (prefix : List ℕ) (mode : Mode) (cap : Cap) (start until : ℕ) (x : Text) → isPrefix prefix ≡ true → x ≡ toText (take pathLimit prefix)

@@ -1,20 +1,17 @@
--- What a call on the tokens leaves of the whole tables, and a scope by its parts. Assumes nothing.
+-- What a call on the tokens leaves of the whole tables. Assumes nothing.
 use mathlib.Core.Bool.{Bool, true, false, cond}
 use mathlib.Core.List.{List}
 use Prim.Native.Nat.{ℕ}
 use lib.ListN.{set}
-use Rattle.amount.specs.declared.Cap.{Cap}
 use Rattle.lists.specs.declared.Found.{Found}
 use Rattle.lists.specs.declared.Found.the-variants.{At, Nothing}
 use Rattle.rules.specs.declared.Answer.{Answer}
-use Rattle.rules.specs.declared.Mode.{Mode}
 use Rattle.rules.specs.declared.Tables.{Tables}
 use Rattle.rules.specs.declared.TablesOutcome.{TablesOutcome}
 use Rattle.rules.specs.declared.Token.{Token}
 use Rattle.rules.specs.Tables.{withTokens, withLastToken}
 use Rattle.rules.specs.Fresh.{freshToken}
 use Rattle.rules.specs.Outcome.{refusal}
-use Rattle.rules.specs.Scope.{ScopeArg}
 use Rattle.rules.specs.TokenCalls.{granted}
 use Rattle.tokens.specs.declared.NewToken.{NewToken}
 use Rattle.tokens.specs.declared.TokensOutcome.{TokensOutcome}
@@ -48,7 +45,3 @@ notStored n = record { answer = refusal n; stored = false; token = freshToken }
 -- the tables as they were: what a call that only answers leaves
 abbrev pub unchanged : Tables → Answer → TablesOutcome
 unchanged t r = record { answer = r; tables = t }
-
--- the scope that a call names by its parts
-abbrev pub scopeArg : List ℕ → Mode → Cap → ℕ → ℕ → ScopeArg
-scopeArg prefix mode cap start until = record { prefix = prefix; mode = mode; cap = cap; «from» = start; until = until }

@@ -9,7 +9,8 @@ ghost use Rattle.rules.specs.declared.Token.{Token};
 ghost use Rattle.rules.specs.declared.TokenNo.{TokenNo};
 ghost use Rattle.rules.specs.Tables.{freeToken, tokenOf};
 ghost use Rattle.rules.specs.TokenCalls.{attenuateRule};
-ghost use Rattle.tokens.specs.Parts.{onTokens, storedAt, scopeArg};
+ghost use Rattle.tokens.specs.Parts.{onTokens, storedAt};
+ghost use Rattle.scopes.specs.Arguments.{scopeArg};
 ghost use Rattle.rows.specs.Links.{rowIf};
 ghost use Rattle.tokens.specs.Rows.{attenuateDeep, attenuateFound};
 use super::NewToken;
@@ -19,8 +20,6 @@ use super::new_tokens::new_token;
 use super::new_tokens::not_stored;
 use super::new_tokens::store;
 use super::scope::make_scope;
-use super::scope::narrows;
-use super::scope::scope_fits;
 use amount::Cap;
 use lists::Found;
 use rows::depth_of;
@@ -35,6 +34,8 @@ use rules::numbers::BAD;
 use rules::numbers::DEEP;
 use rules::numbers::NO_TOKEN;
 use rules::numbers::WIDENS;
+use scopes::narrows;
+use scopes::scope_fits;
 
 // From the parent's row on.
 fn attenuate_in(

@@ -8,7 +8,8 @@ ghost use Rattle.rules.specs.declared.Tables.{Tables};
 ghost use Rattle.rules.specs.declared.Token.{Token};
 ghost use Rattle.rules.specs.Tables.{freeToken};
 ghost use Rattle.rules.specs.TokenCalls.{grantRule, grantIn};
-ghost use Rattle.tokens.specs.Parts.{onTokens, storedAt, scopeArg};
+ghost use Rattle.tokens.specs.Parts.{onTokens, storedAt};
+ghost use Rattle.scopes.specs.Arguments.{scopeArg};
 use super::NewToken;
 use super::TokensOutcome;
 use super::new_tokens::is_found;
@@ -16,7 +17,6 @@ use super::new_tokens::new_token;
 use super::new_tokens::not_stored;
 use super::new_tokens::store;
 use super::scope::make_scope;
-use super::scope::scope_fits;
 use amount::Cap;
 use lists::Found;
 use rows::find_volume;
@@ -33,6 +33,7 @@ use rules::numbers::BAD;
 use rules::numbers::NO_VOLUME;
 use rules::numbers::NOT_OWNER;
 use rules::numbers::STATE;
+use scopes::scope_fits;
 
 // From the volume's row on.
 fn grant_in(

@@ -29,7 +29,7 @@ use Rattle.rules.specs.Commit.{commitRule}
 use Rattle.rules.specs.Sound.{soundTables, soundSession}
 use Rattle.rules.specs.Laws.SoundParts.{of-parts, tables-sound, slots-sound}
 use Rattle.rules.specs.Laws.StaysSound.{DeskInvariant}
-use Rattle.rules.specs.Calls.{Ask, askRule, Work, commits, workRule, Call, ask, onSlot, withSlot, rule}
+use Rattle.rules.specs.Calls.{Ask, askRule, Work, commits, workRule, ask, onSlot, withSlot, rule}
 use Rattle.rules.specs.Advance.{isDue, collect}
 use Rattle.rules.specs.Tables.{withRelays, withLastRelay}
 use Rattle.relays.specs.declared.RelayChange.{RelayChange}
@@ -48,16 +48,18 @@ use Rattle.commits.specs.WithinLaws.{commit-sound}
 use Rattle.journal.specs.declared.Record.{Record}
 use Rattle.journal.specs.Records.{v01}
 use Rattle.journal.specs.Places.{callAt}
-use Rattle.transcripts.specs.declared.RelayCall.{RelayCall}
-use Rattle.transcripts.specs.declared.VolumeCall.{VolumeCall}
-use Rattle.transcripts.specs.declared.TokenCall.{TokenCall}
-use Rattle.transcripts.specs.declared.SlotCall.{SlotCall}
-use Rattle.transcripts.specs.declared.Group.{Group}
-use Rattle.transcripts.specs.declared.Group.the-variants as group
-use Rattle.transcripts.specs.declared.Item.{Item}
-use Rattle.transcripts.specs.Groups.{groupOf, relayAsk, volumeAsk, tokenAsk, lookAsk, deleteAsk, removeAsk, slotWork, callIn, isRecord, StandsAt}
-use Rattle.transcripts.specs.ItemLaws.{call-in-group, slot-there, no-slot-refused, item-named}
-use Rattle.transcripts.specs.Parts.{deskOf, Asked, RelayDone, CommitJudged}
+use Rattle.journal_calls.specs.declared.RelayCall.{RelayCall}
+use Rattle.journal_calls.specs.declared.VolumeCall.{VolumeCall}
+use Rattle.journal_calls.specs.declared.TokenCall.{TokenCall}
+use Rattle.journal_calls.specs.declared.SlotCall.{SlotCall}
+use Rattle.journal_calls.specs.declared.Group.{Group}
+use Rattle.journal_calls.specs.declared.Group.the-variants as group
+use Rattle.journal_calls.specs.declared.Item.{Item}
+use Rattle.journal_calls.specs.Groups.{groupOf, relayAsk, volumeAsk, tokenAsk, lookAsk, deleteAsk, removeAsk, slotWork, callIn, isRecord, StandsAt}
+use Rattle.journal_calls.specs.ItemLaws.{call-in-group, slot-there, no-slot-refused, item-named}
+use Rattle.journal_calls.specs.Parts.{Asked, RelayDone, CommitJudged}
+use Rattle.journal_calls.specs.CommitLaws.{early-rule}
+use Rattle.transcripts.specs.Parts.{deskOf}
 use Rattle.transcripts.proofs.ReplayLaws.{ReplayLoop, Answered, Carried}
 
 -- ---- a desk that calls reach is sound, and there the work of an advance and of a commit is its rule
@@ -279,7 +281,7 @@ module _ (j : List ℕ) (p : ℕ) (y : Item) (ey : StandsAt j p y) where
       -- x is what its checks gave
       module _ (x : Verdict) (f : CommitJudged t session x) where
         verdict : Judged t session (commitRule t session) x
-        verdict = f .judged rule-there
+        verdict = rw (early-rule t session rule-there) at (f .judged)
 
         module _ (z : x .number ≡ 0 → ⊥) (ea : a ≡ refusal (x .number)) where
           stopped-on : Carried g r l t slots a t slots

@@ -21,6 +21,7 @@ use Rattle.journal.specs.FieldLaws.{bytes-drop}
 use Rattle.journal.specs.Records.{v01}
 use Rattle.journal.specs.Journal.{journalMost, TOO-LARGE, stop, Contents, stopped, records, contents, versionFault, startFault, afterStart}
 use Rattle.journal.specs.Theorems.{start-gives-the-contents}
+use Rattle.journal.specs.FieldLaws.{bytes-known}
 use Rattle.transcripts.specs.declared.Replayed.{Replayed}
 use Rattle.transcripts.specs.Transcript.{firstLine, lastLine, programRate, transcript}
 use Rattle.transcripts.specs.TranscriptLaws.{printedFrom, from-start, from-stop}
@@ -46,11 +47,6 @@ unfolding roomFor
 least-room n = omega arith
 
 -- ---- the journal's start
-
--- a list whose elements are bytes
-bytes-known : (l : List ℕ) → ((i : ℕ) → Fits w8 (getD l i 0)) → areBytes l ≡ true
-bytes-known [] b = refl
-bytes-known (x ∷ l) b = rw (lt-ltb x 256 (b zero .fits)) (bytes-known l (λ i. b (suc i)))
 
 faulty : (l : List ℕ) (f : ℕ) → (f ≡ 0 → ⊥) → afterStart f l ≡ stopped f
 faulty l zero n = absurd (n refl)
@@ -118,7 +114,7 @@ module _ (l out₀ : List ℕ) (room : ℕ) (er : room ≡ roomFor (length l)) w
       parted = from-start (contents l)
 
       both-room : 0 + length (firstLine ++ restOf l) ≤ length out₀
-      both-room = omega (arith, ap length parted, transcript-fits l (bytes-known l b))
+      both-room = omega (arith, ap length parted, transcript-fits l (bytes-known l (λ i. b i .fits)))
 
       rest-room : at + length (restOf l) ≤ length m
       rest-room = room-next 0 firstLine (restOf l) out₀ at m w both-room
@@ -157,7 +153,7 @@ module _ (l out₀ : List ℕ) (room : ℕ) (er : room ≡ roomFor (length l)) w
           rest-reads = ap (printedFrom 0 startDesk) held
 
           pub records-bytes : areBytes (onRecords l) ≡ true
-          records-bytes = rw (all-records l) (bytes-drop 1 l (bytes-known l b))
+          records-bytes = rw (all-records l) (bytes-drop 1 l (bytes-known l (λ i. b i .fits)))
 
           pub records-few : length (onRecords l) < 65536
           records-few = rw (all-records l) (omega (arith, length-drop 1 l, within-most l (sym ef ∙ z)))

@@ -25,16 +25,16 @@ use Rattle.journal.specs.Records.{v01}
 use Rattle.journal.specs.Places.{callAt}
 use Rattle.journal.specs.Journal.{Ending, end, stop, Contents, stopped, ended, after, records}
 use Rattle.lists.specs.Bytes.{over}
-use Rattle.transcripts.specs.declared.Group.{Group}
-use Rattle.transcripts.specs.declared.Group.the-variants as group
-use Rattle.transcripts.specs.declared.Item.{Item}
+use Rattle.journal_calls.specs.declared.Group.{Group}
+use Rattle.journal_calls.specs.declared.Group.the-variants as group
+use Rattle.journal_calls.specs.declared.Item.{Item}
 use Rattle.transcripts.specs.declared.Replayed.{Replayed}
 use Rattle.transcripts.specs.Transcript.{recordLine, lastLine, programRate}
 use Rattle.transcripts.specs.TranscriptLaws.{printedFrom, from-call, from-last}
 use Rattle.transcripts.specs.RoomLaws.{answered}
 use Rattle.transcripts.specs.Written.{Wrote}
-use Rattle.transcripts.specs.Groups.{isRecord, StandsAt, BodyAt}
-use Rattle.transcripts.specs.ItemLaws.{RecordAt, Within, item-within, item-end, item-stop, item-record}
+use Rattle.journal_calls.specs.Groups.{isRecord, StandsAt, BodyAt}
+use Rattle.journal_calls.specs.ItemLaws.{RecordAt, Within, item-within, item-end, item-stop, item-record}
 use Rattle.transcripts.specs.Parts.{deskOf}
 use Rattle.lists.specs.OverLaws.{length-over, over-over}
 use Rattle.transcripts.specs.Replay.{Replays}

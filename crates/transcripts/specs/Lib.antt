@@ -5,9 +5,6 @@ pub mod TranscriptLaws
 pub mod LineLaws
 pub mod SmallAnswers
 pub mod RoomLaws
-pub mod NextLaws
-pub mod Groups
-pub mod ItemLaws
 pub mod Parts
 pub mod Replay
 pub mod Cases

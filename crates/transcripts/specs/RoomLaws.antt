@@ -1,7 +1,7 @@
 -- The transcript of a journal fits a buffer of `roomFor` its length. Assumes nothing.
-use mathlib.Core.Path.{_≡_, refl, sym, _∙_, ap}
+use mathlib.Core.Path.{_≡_, refl}
 use mathlib.Core.Bool.{Bool, true, false, cond}
-use mathlib.Core.List.{List, [], _∷_, _++_}
+use mathlib.Core.List.{List, [], _∷_}
 use mathlib.Core.Option.{Option, none, some}
 use Prim.Native.Nat.{ℕ, zero, suc, _+_, _*_, _^_, _<_, _≤_, min}
 use native.Mathlib.Nat.{min-eq-left}
@@ -18,15 +18,13 @@ use Rattle.rules.specs.Calls.{Call, step, rule}
 use Rattle.rules.specs.Laws.StaysSound.{DeskInvariant}
 use Rattle.rules.specs.Laws.Reached.{call-keeps}
 use Rattle.rules.specs.Laws.FreshSound.{fresh-holds}
-use Rattle.journal.specs.Numbers.{bytesOf}
-use Rattle.journal.specs.NumberLaws.{length-bytesOf}
-use Rattle.journal.specs.Fields.{Decoded, nothing, found, text, encode}
-use Rattle.journal.specs.FieldLaws.{decode-taken}
+use Rattle.journal.specs.Fields.{Decoded, nothing, found}
 use Rattle.journal.specs.Records.{v01, parse, readRecord}
 use Rattle.journal.specs.Places.{RECORD}
-use Rattle.journal.specs.Journal.{journalMost, TOO-LARGE, VERSION, framed, stopped, after, onCall, onFrame, recordsIn, records, onVersion, versioned, contents}
+use Rattle.journal.specs.Journal.{journalMost, TOO-LARGE, VERSION, framed, stopped, onCall, onFrame, recordsIn, records, onVersion, versioned, contents}
 use Rattle.journal.specs.JournalLaws.{records-step}
-use Rattle.transcripts.specs.Transcript.{firstLine, recordLine, programRate, printed, transcript}
+use Rattle.journal_calls.specs.NextLaws.{apart}
+use Rattle.transcripts.specs.Transcript.{firstLine, recordLine, programRate, transcript}
 use Rattle.transcripts.specs.TranscriptLaws.{printedFrom, from-start, from-call, from-stop, from-end}
 use Rattle.transcripts.specs.LineLaws.{line-most, stop-most, end-most}
 use Rattle.transcripts.specs.SmallAnswers.{Small, small-answer}
@@ -42,19 +40,6 @@ some-body : (body : List ℕ) (c : Call) → readRecord v01 body ≡ some c → 
 unfolding readRecord parse
 some-body [] c e = absurd (let z : _≡_ {A = ℕ} 0 1 = cc in omega arith)
 some-body (b ∷ l) c e = omega arith
-
-pub record Apart (l body rest : List ℕ) : Type 0 where
-  pub size : length l ≡ 2 + length body + length rest
-  pub bytes : areBytes rest ≡ true
-
-pub apart : (l body rest : List ℕ) → areBytes l ≡ true → framed l ≡ found body rest → Apart l body rest
-unfolding encode
-apart l body rest h e =
-    let t = decode-taken (text 2 65535) l body rest h e in
-    record {
-      size = sym (ap length (t .whole)) ∙ length-append (bytesOf 2 (length body) ++ body) rest ∙ omega (arith, length-append (bytesOf 2 (length body)) body, length-bytesOf 2 (length body));
-      bytes = t .rest;
-    }
 
 -- so many bytes for the records of l and the last line
 abbrev most : List ℕ → ℕ

@@ -6,9 +6,9 @@ use Rattle.rules.specs.Sound.{soundRelay}
 use Rattle.lists.specs.AnswerLaws.{said-yes}
 use Rattle.lists.specs.LoopLaws.{AllLoop, alls}
 use Rattle.lists.specs.RowLaws.{rows-length}
-use Rattle.soundness.proofs.NumberLaws.{relays-clash, relay-fails, relays-hold}
+use Rattle.soundness.proofs.RelayLaws.{relays-clash, relay-fails, relays-hold}
 use Rattle.soundness.proofs.ShardLaws.{Sized, LoadLoop, load-start, load-on, load-off, load-bytes, load-shards, bytes-fit, shards-fit}
-use Rattle.soundness.proofs.Told.{relay-skipped}
+use Rattle.soundness.proofs.RelayLaws.{relay-skipped}
 use borrow.Author.Needs.{needs}
 use Rattle.soundness.proofs.relay_test.relays_hold.Statement.{statement}
 use Rattle.soundness.proofs.relay_test.relays_hold.Tie as tie

@@ -1,8 +1,8 @@
 -- `tables::sound_tables` meets its contract: each test that led to a return is one of the rule's. Assumes nothing.
 use Rattle.rules.specs.Sound.{soundTables}
 use Rattle.lists.specs.AnswerLaws.{refused, all-5, said-yes}
-use Rattle.soundness.proofs.NumberLaws.{no-relays}
-use Rattle.soundness.proofs.Told.{volumes-held, entries-held}
+use Rattle.soundness.proofs.RelayLaws.{no-relays}
+use Rattle.soundness.proofs.RelayLaws.{volumes-held, entries-held}
 use borrow.Author.Needs.{needs}
 use Rattle.soundness.proofs.tables.sound_tables.Statement.{statement}
 use Rattle.soundness.proofs.tables.sound_tables.Tie as tie

@@ -1,0 +1,91 @@
+-- What stands next in the records of a journal, as the code is told it: the end, a fault, or a whole record with so many bytes. Assumes nothing.
+use mathlib.Core.Path.{_≡_, refl, sym, _∙_, ap}
+use mathlib.Core.Bool.{true}
+use mathlib.Core.List.{List, [], _∷_, _++_}
+use Prim.Native.Nat.{ℕ, _+_, _-_, _≤_}
+use native.Mathlib.Omega.{arith}
+use lib.Pow.{areBytes}
+use lib.ListN.{length, take, drop, length-append}
+use lib.Seq.{drop-drop}
+use Rattle.journal.specs.declared.Record.{Record}
+use Rattle.journal.specs.declared.Reading.{Reading}
+use Rattle.journal.specs.declared.Reading.the-variants.{Fits, Refused}
+use Rattle.journal.specs.declared.Next.{Next}
+use Rattle.journal.specs.declared.Next.the-variants.{End, Whole, Stop}
+use Rattle.journal.specs.Numbers.{bytesOf}
+use Rattle.journal.specs.NumberLaws.{length-bytesOf}
+use Rattle.journal.specs.Fields.{Decoded, nothing, found, text, encode}
+use Rattle.journal.specs.FieldLaws.{bytes-drop, decode-taken}
+use Rattle.journal.specs.Records.{v01, parse}
+use Rattle.journal.specs.Places.{readAt, callAt}
+use Rattle.journal.specs.Journal.{stopped, ended, after, framed, records, onReading, onBody, nextIn, afterNext}
+use Rattle.journal.specs.Theorems.{next-gives-the-contents}
+
+-- the bytes of a record, and those after it
+pub record Apart (l body rest : List ℕ) : Type 0 where
+  pub size : length l ≡ 2 + length body + length rest
+  pub bytes : areBytes rest ≡ true
+
+pub apart : (l body rest : List ℕ) → areBytes l ≡ true → framed l ≡ found body rest → Apart l body rest
+unfolding encode
+apart l body rest h e =
+    let t = decode-taken (text 2 65535) l body rest h e in
+    record {
+      size = sym (ap length (t .whole)) ∙ length-append (bytesOf 2 (length body) ++ body) rest ∙ omega (arith, length-append (bytesOf 2 (length body)) body, length-bytesOf 2 (length body));
+      bytes = t .rest;
+    }
+
+-- a whole record has 3 bytes or more with its length, and they are there
+pub record Sized (l : List ℕ) (n : ℕ) : Type 0 where
+  pub least : 3 ≤ n
+  pub there : n ≤ length l
+
+some-read : (body : List ℕ) (r : Record) → readAt v01 body ≡ Fits r → 1 ≤ length body
+unfolding readAt parse
+some-read [] r e = absurd (let z : _≡_ {A = ℕ} 0 1 = cc in omega arith)
+some-read (b ∷ l) r e = omega arith
+
+whole-read : (l body rest : List ℕ) → areBytes l ≡ true → framed l ≡ found body rest → (o : Reading) → readAt v01 body ≡ o → (r : Record) (n : ℕ)
+    → onReading body o ≡ Whole r n → Sized l n
+whole-read l body rest h f (Refused k) g r n e = absurd (let z : _≡_ {A = ℕ} 0 1 = cc in omega arith)
+whole-read l body rest h f (Fits q) g r n e =
+    let s : 2 + length body ≡ n = cc in
+    let a = apart l body rest h f in
+    let b = some-read body q g in
+    record { least = omega arith; there = omega (arith, a .size) }
+
+pub whole-sized : (l : List ℕ) → areBytes l ≡ true → (r : Record) (n : ℕ) → nextIn v01 l ≡ Whole r n → Sized l n
+unfolding nextIn
+whole-sized [] h r n e = absurd (let z : _≡_ {A = ℕ} 0 1 = cc in omega arith)
+whole-sized (b ∷ l) h r n e = by (framed (b ∷ l)) refl e
+  where
+    by : (d : Decoded (List ℕ)) → framed (b ∷ l) ≡ d → onBody v01 d ≡ Whole r n → Sized (b ∷ l) n
+    by nothing f e = absurd (let z : _≡_ {A = ℕ} 0 1 = cc in omega arith)
+    by (found body rest) f e = whole-read (b ∷ l) body rest h f (readAt v01 body) refl r n e
+
+-- the bytes of the record at a place, which ends before `after`
+abbrev pub bodyAt : ℕ → ℕ → List ℕ → List ℕ
+bodyAt p after l = take (after - (p + 2)) (drop (p + 2) l)
+
+pub record-sized : (l : List ℕ) → areBytes l ≡ true → (p : ℕ) (r : Record) (k : ℕ) → nextIn v01 (drop p l) ≡ Whole r k → Sized (drop p l) k
+record-sized l h p r k e = whole-sized (drop p l) (bytes-drop p l h) r k e
+
+-- what the journal holds from there on, by what stands next
+module _ (l : List ℕ) (h : areBytes l ≡ true) (p : ℕ) where
+  holds-next : (next : Next) → nextIn v01 (drop p l) ≡ next → records v01 (drop p l) ≡ afterNext v01 (drop p l) next
+  holds-next next e = next-gives-the-contents v01 (drop p l) (bytes-drop p l h) ∙ ap (afterNext v01 (drop p l)) e
+
+  pub left-at-end : nextIn v01 (drop p l) ≡ End → records v01 (drop p l) ≡ ended
+  left-at-end e = holds-next End e
+
+  pub left-at-stop : (number : ℕ) → nextIn v01 (drop p l) ≡ Stop number → records v01 (drop p l) ≡ stopped number
+  left-at-stop number e = holds-next (Stop number) e
+
+  module _ (r : Record) (k : ℕ) (e : nextIn v01 (drop p l) ≡ Whole r k) where
+    record-body : take (k - 2) (drop 2 (drop p l)) ≡ bodyAt p (p + k) l
+    record-body =
+        let s : k - 2 ≡ p + k - (p + 2) = omega (arith, record-sized l h p r k e .least) in
+        rw (s, drop-drop 2 p l)
+
+    pub left-at-record : records v01 (drop p l) ≡ after (callAt v01 r (bodyAt p (p + k) l)) (records v01 (drop (p + k) l))
+    left-at-record = holds-next (Whole r k) e ∙ rw (record-body, drop-drop k p l)

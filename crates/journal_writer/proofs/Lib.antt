@@ -1,0 +1,4 @@
+pub mod OverLaws
+pub mod SizeLaws
+pub mod PutLaws
+pub mod WriteLaws

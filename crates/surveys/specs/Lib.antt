@@ -1,0 +1,3 @@
+pub mod RowLimits
+pub mod Survey
+pub mod SurveyedLaws
