@@ -214,7 +214,7 @@ pub fn remove(d: Desk, account: Account, volume: VolumeNo, path: &[u8]) -> Outco
         return refuse(d, BAD);
     }
     let t = d.tables;
-    with_remove(d, entries::remove_on(t, account, volume, path))
+    with_remove(d, removes::remove_on(t, account, volume, path))
 }
 
 // The size of an object, and its hash handed back.

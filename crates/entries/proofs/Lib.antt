@@ -1,6 +1,5 @@
 pub mod CountLaws
 pub mod PathLaws
-pub mod RemoveLaws
 pub mod StoreLaws
 pub mod FlagLaws
 pub mod KeyLaws

@@ -1,4 +1,3 @@
 pub mod Keys
 pub mod Marks
 pub mod MarkLaws
-pub mod Parts

@@ -1,7 +1,7 @@
 // The work of a record, group by group: the call's fields are taken from the record and its bytes, and the call's crate does it.
 ghost use mathlib.Core.Path.{_≡_};
 ghost use Rattle.rules.specs.Calls.{workRule};
-ghost use Rattle.entries.specs.Parts.{onRemove};
+ghost use Rattle.removes.specs.Parts.{onRemove};
 ghost use Rattle.commits.specs.Stored.{StoredBy};
 ghost use Rattle.sessions.specs.Parts.{onSession};
 ghost use Rattle.volumes.specs.Parts.{onVolumes, onDelete};
@@ -19,11 +19,11 @@ use commits::check_commit;
 use commits::early_refusal;
 use commits::refusing;
 use commits::store_commit;
-use entries::RemoveOutcome;
 use journal::account_of;
 use journal::hash_of;
 use journal::text_of;
 use relays::RelayChange;
+use removes::RemoveOutcome;
 use rules::Answer;
 use rules::Relay;
 use rules::RelayNo;
@@ -110,7 +110,7 @@ pub fn remove_call(t: Tables, item: Item, body: &[u8]) -> RemoveOutcome
 {
     let r = item.fields;
     let a = account_of(body, r);
-    entries::remove_on(t, a, VolumeNo(r.no), text_of(body, r))
+    removes::remove_on(t, a, VolumeNo(r.no), text_of(body, r))
 }
 
 // A call on a slot, but for commit, on the slot's session.

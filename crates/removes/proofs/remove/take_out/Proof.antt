@@ -1,8 +1,8 @@
 -- `remove::take_out` meets its contract: the marked entries go, and the volume has its new version. Assumes nothing.
-use Rattle.entries.proofs.RemoveLaws.{removes}
+use Rattle.removes.proofs.RemoveLaws.{removes}
 use borrow.Author.Needs.{needs}
-use Rattle.entries.proofs.remove.take_out.Statement.{statement}
-use Rattle.entries.proofs.remove.take_out.Tie as tie
+use Rattle.removes.proofs.remove.take_out.Statement.{statement}
+use Rattle.removes.proofs.remove.take_out.Tie as tie
 
 pub take-out-spec : {M : Type 1} → statement M
 take-out-spec =

@@ -2,10 +2,10 @@
 use Rattle.rules.specs.VolumeCalls.{removeRule, removeIn}
 use Rattle.rules.specs.Tables.{volumeOf}
 use Rattle.lists.specs.AnswerLaws.{checks, in-table}
-use Rattle.entries.proofs.RemoveLaws.{remove-none, remove-at}
+use Rattle.removes.proofs.RemoveLaws.{remove-none, remove-at}
 use borrow.Author.Needs.{needs}
-use Rattle.entries.proofs.remove.remove_on.Statement.{statement}
-use Rattle.entries.proofs.remove.remove_on.Tie as tie
+use Rattle.removes.proofs.remove.remove_on.Statement.{statement}
+use Rattle.removes.proofs.remove.remove_on.Tie as tie
 
 pub remove-on-spec : {M : Type 1} → statement M
 unfolding removeRule removeIn volumeOf

@@ -2,7 +2,7 @@
 use Rattle.rules.specs.declared.Tables.{Tables}
 use Rattle.rules.specs.declared.TablesOutcome.{TablesOutcome}
 use Rattle.rules.specs.Tables.{withVolumes, withEntries, withRelays}
-use Rattle.entries.specs.declared.RemoveOutcome.{RemoveOutcome}
+use Rattle.removes.specs.declared.RemoveOutcome.{RemoveOutcome}
 
 -- the tables with what a remove left
 abbrev pub onRemove : Tables → RemoveOutcome → TablesOutcome

@@ -1,7 +1,7 @@
 -- `remove::accept` meets its contract. Assumes nothing.
 use borrow.Author.Needs.{needs}
-use Rattle.entries.proofs.remove.accept.Statement.{statement}
-use Rattle.entries.proofs.remove.accept.Tie as tie
+use Rattle.removes.proofs.remove.accept.Statement.{statement}
+use Rattle.removes.proofs.remove.accept.Tie as tie
 
 pub accept-spec : {M : Type 1} → statement M
 accept-spec =

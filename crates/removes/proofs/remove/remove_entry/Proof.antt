@@ -2,10 +2,10 @@
 use Rattle.rules.specs.VolumeCalls.{removeEntry}
 use Rattle.rules.specs.Tables.{entryOf}
 use Rattle.lists.specs.AnswerLaws.{checks}
-use Rattle.entries.proofs.RemoveLaws.{entry-none, entry-at}
+use Rattle.removes.proofs.RemoveLaws.{entry-none, entry-at}
 use borrow.Author.Needs.{needs}
-use Rattle.entries.proofs.remove.remove_entry.Statement.{statement}
-use Rattle.entries.proofs.remove.remove_entry.Tie as tie
+use Rattle.removes.proofs.remove.remove_entry.Statement.{statement}
+use Rattle.removes.proofs.remove.remove_entry.Tie as tie
 
 pub remove-entry-spec : {M : Type 1} → statement M
 unfolding removeEntry entryOf

@@ -1,7 +1,7 @@
 -- `remove::refuse` meets its contract. Assumes nothing.
 use borrow.Author.Needs.{needs}
-use Rattle.entries.proofs.remove.refuse.Statement.{statement}
-use Rattle.entries.proofs.remove.refuse.Tie as tie
+use Rattle.removes.proofs.remove.refuse.Statement.{statement}
+use Rattle.removes.proofs.remove.refuse.Tie as tie
 
 pub refuse-spec : {M : Type 1} → statement M
 refuse-spec =

@@ -2,8 +2,8 @@
 use Rattle.rules.specs.VolumeCalls.{removeIn}
 use Rattle.lists.specs.AnswerLaws.{checks}
 use borrow.Author.Needs.{needs}
-use Rattle.entries.proofs.remove.remove_in.Statement.{statement}
-use Rattle.entries.proofs.remove.remove_in.Tie as tie
+use Rattle.removes.proofs.remove.remove_in.Statement.{statement}
+use Rattle.removes.proofs.remove.remove_in.Tie as tie
 
 pub remove-in-spec : {M : Type 1} → statement M
 unfolding removeIn
