@@ -24,7 +24,7 @@ use Rattle.journal.specs.declared.Number.the-variants.{Value, Cut}
 use Rattle.journal.specs.declared.Step.the-variants.{Next, Refused}
 use Rattle.journal.specs.Fields.{text, bytes, cap, mode, nothing, found, decodeNumber, decode, encode}
 use Rattle.journal.specs.FieldLaws.{bytes-drop}
-use Rattle.journal.specs.Records.{v01}
+use Rattle.journal.specs.Records.{Version, v01, textWidth, textMost}
 use Rattle.journal.specs.Places.{place}
 use Rattle.journal.specs.Table.{numberAt, widthOf, placeNumber, stepNumber, stepTo}
 use Rattle.journal.specs.FieldLaws.{bytes-known}
@@ -44,13 +44,13 @@ module _ (at : ℕ) (r : Record) (l : List ℕ) (h : 32 ≤ length l - at) where
   unfolding decode encode
   account-read =
       let d = drop at l in
-      step-found its.Account at r d (take 32 d) (drop 32 d) 32 (part-some 32 d enough) (length-take-le 32 d enough)
+      step-found v01 its.Account at r d (take 32 d) (drop 32 d) 32 (part-some 32 d enough) (length-take-le 32 d enough)
 
   pub hash-read : Next (place v01 its.Hash at [] r) (at + 32) ≡ stepTo v01 its.Hash at r (decode (bytes 32) (drop at l))
   unfolding decode encode
   hash-read =
       let d = drop at l in
-      step-found its.Hash at r d (take 32 d) (drop 32 d) 32 (part-some 32 d enough) (length-take-le 32 d enough)
+      step-found v01 its.Hash at r d (take 32 d) (drop 32 d) 32 (part-some 32 d enough) (length-take-le 32 d enough)
 
 -- ---- a number
 
@@ -79,12 +79,37 @@ stored f g n r q e p = rw e p
 pub stored-fits : (f g : Field) (n : ℕ) (w : Width) → f ≡ g → n < 256 ^ widthOf f → 256 ^ widthOf g ≡ 2 ^ bits w → Fits w n
 stored-fits f g n w e h k = record { fits = rw (← k) (rw e at h) }
 
--- ---- a text, a mode and a cap: first a byte
+-- ---- a text: first its length, of w bytes; `most` is the longest
+
+module _ (v : Version) (m : Number) (w : ℕ) (l : List ℕ) (ew : w ≡ textWidth v) (e : m ≡ numberAt w l) where
+  counted : m ≡ numberAt (textWidth v) l
+  counted = rw ew at e
+
+  pub no-text : m ≡ Cut → decode (text (textWidth v) (textMost v)) l ≡ nothing
+  no-text c = text-cut (textWidth v) (textMost v) l (not-there (textWidth v) l (sym c ∙ counted))
+
+  module _ (b : ℕ) (u : m ≡ Value b) where
+    measured : Valued (textWidth v) l b
+    measured = valued (textWidth v) l b (sym u ∙ counted)
+
+    pub long-text : (most : ℕ) → most ≡ textMost v → most < b → decode (text (textWidth v) (textMost v)) l ≡ nothing
+    long-text most f h = text-long (textWidth v) (textMost v) l b measured (rw f at h)
+
+module _ (v : Version) (m : Number) (w at : ℕ) (l : List ℕ) (ew : w ≡ textWidth v) (e : m ≡ numberAt w (drop at l)) (b : ℕ) (u : m ≡ Value b) (most : ℕ)
+    (f : most ≡ textMost v) (h : b ≤ most) where
+  left : length l - (at + w) ≡ length (drop (textWidth v) (drop at l))
+  left = rw (← ew) (omega (arith, length-drop at l, length-drop w (drop at l)))
+
+  pub short-text : length l - (at + w) < b → decode (text (textWidth v) (textMost v)) (drop at l) ≡ nothing
+  short-text k = text-short (textWidth v) (textMost v) (drop at l) b (measured v m w (drop at l) ew e b u) (rw f at h) (rw left at k)
+
+  pub text-read : (r : Record) → b ≤ length l - (at + w)
+      → Next (withText (at + w) b r) (at + w + b) ≡ stepTo v its.Text at r (decode (text (textWidth v) (textMost v)) (drop at l))
+  text-read r k = rw ew (step-text v at r (drop at l) b (measured v m w (drop at l) ew e b u) (rw f at h) (rw left at k))
+
+-- ---- a mode and a cap: first a byte
 
 module _ (m : Number) (l : List ℕ) (e : m ≡ numberAt 1 l) where
-  pub no-text : m ≡ Cut → decode (text 1 255) l ≡ nothing
-  no-text c = text-cut 1 255 l (not-there 1 l (sym c ∙ e))
-
   pub no-mode : m ≡ Cut → decode mode l ≡ nothing
   no-mode c = mode-cut l (not-there 1 l (sym c ∙ e))
 
@@ -94,9 +119,6 @@ module _ (m : Number) (l : List ℕ) (e : m ≡ numberAt 1 l) where
   module _ (b : ℕ) (v : m ≡ Value b) where
     there : Valued 1 l b
     there = valued 1 l b (sym v ∙ e)
-
-    pub long-text : 255 < b → decode (text 1 255) l ≡ nothing
-    long-text h = text-long 1 255 l b there h
 
     pub is-read : b ≡ 0 → decode mode l ≡ found right.Read (drop 1 l)
     is-read k = mode-at l b there ∙ rw k
@@ -118,15 +140,6 @@ module _ (m : Number) (l : List ℕ) (e : m ≡ numberAt 1 l) where
 
 -- what comes after the byte
 module _ (m : Number) (at : ℕ) (l : List ℕ) (e : m ≡ numberAt 1 (drop at l)) (b : ℕ) (v : m ≡ Value b) where
-  after : length l - (at + 1) ≡ length (drop 1 (drop at l))
-  after = omega (arith, length-drop at l, length-drop 1 (drop at l))
-
-  pub short-text : b ≤ 255 → length l - (at + 1) < b → decode (text 1 255) (drop at l) ≡ nothing
-  short-text h k = text-short 1 255 (drop at l) b (there m (drop at l) e b v) h (omega (arith, after))
-
-  pub text-read : (r : Record) → b ≤ 255 → b ≤ length l - (at + 1) → Next (withText (at + 1) b r) (at + 1 + b) ≡ stepTo v01 its.Text at r (decode (text 1 255) (drop at l))
-  text-read r h k = step-text at r (drop at l) b (there m (drop at l) e b v) h (omega (arith, after))
-
   module _ (k : b ≡ 1) (j : Number) (i : j ≡ numberAt 8 (drop (at + 1) l)) where
     pub cut-cap : j ≡ Cut → decode cap (drop at l) ≡ nothing
     cut-cap c =
@@ -139,14 +152,14 @@ module _ (m : Number) (at : ℕ) (l : List ℕ) (e : m ≡ numberAt 1 (drop at l
         let d : decodeNumber 8 (drop 1 (drop at l)) ≡ found n (drop 8 s) = rw (drop-drop 1 at l) (valued 8 s n (sym u ∙ i) .read) in
         let c : decode cap (drop at l) ≡ found (Bytes n) (drop 8 s) = cap-at (drop at l) b (there m (drop at l) e b v) ∙ rw (k, d) in
         let z : at + 1 + 8 ≡ at + 9 = omega arith in
-        rw (p, z) (step-found its.Cap at r (drop at l) (Bytes n) (drop 8 s) 9 c (length-count n))
+        rw (p, z) (step-found v01 its.Cap at r (drop at l) (Bytes n) (drop 8 s) 9 c (length-count n))
 
 module _ (at : ℕ) (q r : Record) (l : List ℕ) where
   pub mode-read : (x : Mode) → q ≡ place v01 its.Mode 0 x r → decode mode l ≡ found x (drop 1 l) → Next q (at + 1) ≡ stepTo v01 its.Mode at r (decode mode l)
-  mode-read x p d = rw p (step-found its.Mode at r l x (drop 1 l) 1 d (length-mode x))
+  mode-read x p d = rw p (step-found v01 its.Mode at r l x (drop 1 l) 1 d (length-mode x))
 
   pub unlimited-read : q ≡ place v01 its.Cap 0 Unlimited r → decode cap l ≡ found Unlimited (drop 1 l) → Next q (at + 1) ≡ stepTo v01 its.Cap at r (decode cap l)
-  unlimited-read p d = rw p (step-found its.Cap at r l Unlimited (drop 1 l) 1 d length-unlimited)
+  unlimited-read p d = rw p (step-found v01 its.Cap at r l Unlimited (drop 1 l) 1 d length-unlimited)
 
 pub ruleset refusals = (step-nothing, bytes-short, no-text, no-mode, no-cap, long-text, short-text, other-mode, other-cap, cut-cap)
 

@@ -9,77 +9,74 @@ use mir.Syntax.{w8}
 use lib.ListN.{length, take, drop, getD, replicate, length-drop, drop-of-length-le}
 use lib.Seq.{take-all, take-append-le, take-append-add, take-length, take-nil, length-take-le, paste}
 use borrow.Author.Tests.{lt-ltb, le-ltb, eq-eqb, ne-eqb}
+use Rattle.journal.specs.declared.Start.the-variants.{Records, Fault}
 use Rattle.journal.specs.declared.Next.the-variants.{End, Whole, Stop}
 use Rattle.journal.specs.declared.Number.{Number}
 use Rattle.journal.specs.declared.Number.the-variants.{Value, Cut}
 use Rattle.journal.specs.declared.Reading.{Reading}
 use Rattle.journal.specs.declared.Reading.the-variants as reading
 use Rattle.journal.specs.declared.Record.{Record}
-use Rattle.journal.specs.Records.{v01}
+use Rattle.journal.specs.Records.{Version, v01}
 use Rattle.journal.specs.Places.{RECORD, readAt, padded32}
-use Rattle.journal.specs.Journal.{journalMost, TOO-LARGE, VERSION, framed, startFault, versionFault, onBody, onReading, nextIn}
+use Rattle.journal.specs.Journal.{journalMost, TOO-LARGE, VERSION, framed, startOf, firstByte, versionStart, versionNumbered, onBody, onReading, nextIn}
 use Rattle.journal.specs.Table.{numberAt}
 use Rattle.journal.specs.FieldLaws.{bytes-known}
 use Rattle.journal.proofs.StepLaws.{Valued, valued, valued-lt, not-there, text-cut, text-short, text-full}
 
--- ---- the start of a journal
+-- ---- the start of a journal, as the code answers
 
-pub start-large : (l : List ℕ) → journalMost < length l → startFault l ≡ TOO-LARGE
-unfolding startFault
-start-large l h = rw (lt-ltb _ _ h)
-
-start-small : (l : List ℕ) → length l ≤ journalMost → startFault l ≡ versionFault l
-unfolding startFault
-start-small l h = rw (le-ltb _ _ h)
-
-pub start-none : (l : List ℕ) → length l ≤ journalMost → length l < 1 → startFault l ≡ VERSION
-start-none [] h k = start-small [] h
-start-none (b ∷ l) h k = absurd (omega arith)
-
-pub start-right : (l : List ℕ) → length l ≤ journalMost → 1 ≤ length l → getD l 0 0 ≡ 1 → startFault l ≡ 0
-start-right [] h k e = absurd (omega arith)
-start-right (b ∷ l) h k e = start-small (b ∷ l) h ∙ rw (eq-eqb b 1 e)
-
-pub start-other : (l : List ℕ) → length l ≤ journalMost → 1 ≤ length l → (getD l 0 0 ≡ 1 → ⊥) → startFault l ≡ VERSION
-start-other [] h k e = absurd (omega arith)
-start-other (b ∷ l) h k e = start-small (b ∷ l) h ∙ rw (ne-eqb b 1 e)
-
--- as the code answers
 module _ (l : List ℕ) where
-  pub too-large : journalMost < length l → TOO-LARGE ≡ startFault l
-  too-large h = sym (start-large l h)
+  pub too-large : journalMost < length l → Fault TOO-LARGE ≡ startOf l
+  unfolding startOf
+  too-large h = sym (rw (lt-ltb _ _ h))
 
-  pub no-version : length l ≤ journalMost → length l < 1 → VERSION ≡ startFault l
-  no-version h k = sym (start-none l h k)
+  start-small : length l ≤ journalMost → startOf l ≡ firstByte l
+  unfolding startOf
+  start-small h = rw (le-ltb _ _ h)
 
-  pub right-version : length l ≤ journalMost → 1 ≤ length l → getD l 0 0 ≡ 1 → 0 ≡ startFault l
-  right-version h k e = sym (start-right l h k e)
+  pub no-version : length l ≤ journalMost → length l < 1 → Fault VERSION ≡ startOf l
+  no-version h k = sym (start-small h ∙ none l k)
+    where
+      none : (m : List ℕ) → length m < 1 → firstByte m ≡ Fault VERSION
+      none [] q = refl
+      none (b ∷ m) q = absurd (omega arith)
 
-  pub other-version : length l ≤ journalMost → 1 ≤ length l → (getD l 0 0 ≡ 1 → ⊥) → VERSION ≡ startFault l
-  other-version h k e = sym (start-other l h k e)
+  -- the first byte
+  starts : (n : ℕ) → 1 ≤ length l → getD l 0 0 ≡ n → firstByte l ≡ versionStart (versionNumbered n)
+  starts n k e = go l k e
+    where
+      go : (m : List ℕ) → 1 ≤ length m → getD m 0 0 ≡ n → firstByte m ≡ versionStart (versionNumbered n)
+      go [] q u = absurd (omega arith)
+      go (b ∷ m) q u = rw u
+
+  pub right-version : length l ≤ journalMost → 1 ≤ length l → getD l 0 0 ≡ 1 → Records v01 ≡ startOf l
+  right-version h k e = sym (start-small h ∙ starts 1 k e)
+
+  pub other-version : length l ≤ journalMost → 1 ≤ length l → (getD l 0 0 ≡ 1 → ⊥) → Fault VERSION ≡ startOf l
+  other-version h k e = sym (start-small h ∙ starts (getD l 0 0) k refl ∙ rw (ne-eqb (getD l 0 0) 1 e))
 
 pub ruleset start-faults = (too-large, no-version, right-version, other-version)
 
 -- ---- the next record
 
-pub next-end : (l : List ℕ) → length l < 1 → nextIn v01 l ≡ End
+pub next-end : (v : Version) (l : List ℕ) → length l < 1 → nextIn v l ≡ End
 unfolding nextIn
-next-end [] h = refl
-next-end (b ∷ l) h = absurd (omega arith)
+next-end v [] h = refl
+next-end v (b ∷ l) h = absurd (omega arith)
 
-pub next-frame : (l : List ℕ) → 1 ≤ length l → nextIn v01 l ≡ onBody v01 (framed l)
+pub next-frame : (v : Version) (l : List ℕ) → 1 ≤ length l → nextIn v l ≡ onBody v (framed l)
 unfolding nextIn
-next-frame [] h = absurd (omega arith)
-next-frame (b ∷ l) h = refl
+next-frame v [] h = absurd (omega arith)
+next-frame v (b ∷ l) h = refl
 
 -- as the code takes it: x is what stands in the first two bytes
-module _ (l : List ℕ) where
-  pub at-end : length l < 1 → End ≡ nextIn v01 l
-  at-end h = sym (next-end l h)
+module _ (v : Version) (l : List ℕ) where
+  pub at-end : length l < 1 → End ≡ nextIn v l
+  at-end h = sym (next-end v l h)
 
   module _ (x : Number) (e : x ≡ numberAt 2 l) where
-    pub length-cut : 1 ≤ length l → x ≡ Cut → Stop RECORD ≡ nextIn v01 l
-    length-cut h c = sym (next-frame l h ∙ ap (onBody v01) (text-cut 2 65535 l (not-there 2 l (sym c ∙ e))))
+    pub length-cut : 1 ≤ length l → x ≡ Cut → Stop RECORD ≡ nextIn v l
+    length-cut h c = sym (next-frame v l h ∙ ap (onBody v) (text-cut 2 65535 l (not-there 2 l (sym c ∙ e))))
 
     -- a length of n bytes, and y is what was read of them
     module _ (n : ℕ) (w : x ≡ Value n) where
@@ -96,25 +93,25 @@ module _ (l : List ℕ) where
         most : n ≤ 65535
         most = omega (arith, valued-lt 2 l n (bytes-known l (λ k. known k .fits)) there)
 
-        pub body-cut : length l - 2 < n → Stop RECORD ≡ nextIn v01 l
+        pub body-cut : length l - 2 < n → Stop RECORD ≡ nextIn v l
         body-cut h =
             let s : length (drop 2 l) < n = omega (arith, length-drop 2 l, length-there) in
-            sym (next-frame l (omega (arith, length-there)) ∙ ap (onBody v01) (text-short 2 65535 l n there most s))
+            sym (next-frame v l (omega (arith, length-there)) ∙ ap (onBody v) (text-short 2 65535 l n there most s))
 
-        module _ (y : Reading) (q : y ≡ readAt v01 (take (2 + n - 2) (drop 2 l))) (h : n ≤ length l - 2) where
+        module _ (y : Reading) (q : y ≡ readAt v (take (2 + n - 2) (drop 2 l))) (h : n ≤ length l - 2) where
           body : n ≤ length (drop 2 l)
           body = omega (arith, length-drop 2 l)
 
-          next-read : nextIn v01 l ≡ onReading (take n (drop 2 l)) y
+          next-read : nextIn v l ≡ onReading (take n (drop 2 l)) y
           next-read =
               let z : 2 + n - 2 ≡ n = omega arith in
-              next-frame l (omega (arith, length-there)) ∙ ap (onBody v01) (text-full 2 65535 l n there most body)
+              next-frame v l (omega (arith, length-there)) ∙ ap (onBody v) (text-full 2 65535 l n there most body)
               ∙ ap (onReading (take n (drop 2 l))) (sym (rw z at q))
 
-          pub record-whole : (r : Record) → y ≡ reading.Fits r → Whole r (2 + n) ≡ nextIn v01 l
+          pub record-whole : (r : Record) → y ≡ reading.Fits r → Whole r (2 + n) ≡ nextIn v l
           record-whole r f = sym (next-read ∙ rw (f, length-take-le n (drop 2 l) body))
 
-          pub record-refused : (m : ℕ) → y ≡ reading.Refused m → Stop m ≡ nextIn v01 l
+          pub record-refused : (m : ℕ) → y ≡ reading.Refused m → Stop m ≡ nextIn v l
           record-refused m f = sym (next-read ∙ rw f)
 
 pub ruleset nexts = (at-end, length-cut, length-there, body-there, body-cut, record-whole, record-refused)

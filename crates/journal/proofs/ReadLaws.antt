@@ -22,7 +22,7 @@ use Rattle.journal.specs.declared.Step.{Step}
 use Rattle.journal.specs.declared.Step.the-variants.{Next, Refused}
 use Rattle.journal.specs.Fields.{Decoded, nothing, found, onFound, inFront, decode, decodeAll, encode, ValueOf, ValuesOf}
 use Rattle.journal.specs.FieldLaws.{decode-taken, bytes-drop}
-use Rattle.journal.specs.Records.{Version, v01, formatOf, formsOf, fieldsOf, kinds, kindAmong, whole, parse, parseKind}
+use Rattle.journal.specs.Records.{Version, formatOf, formsOf, fieldsOf, kinds, kindAmong, whole, parse, parseKind}
 use Rattle.journal.specs.Places.{RECORD, blank, place, readingOf, readAt}
 use Rattle.journal.specs.PlaceLaws.{past}
 use Rattle.journal.specs.Table.{named, padded, fieldsMost, stepTo, ending, readOn}
@@ -96,88 +96,88 @@ pub field-at : (fs : List Field) (i : ℕ) → i < length fs → drop i fs ≡ g
 field-at fs i h = drop-cons fs i its.Account h ∙ ap (λ (f : Field). f ∷ drop (suc i) fs) (sym (List·getD-append fs _ its.Account i h))
 
 -- the kind of a record, then its fields
-read-kind : (b : ℕ) (l : List ℕ) (k : Kind) → kindAmong b (kinds v01) ≡ some k → readAt v01 (b ∷ l) ≡ readOn v01 (fieldsOf v01 k) 1 (blank k) (b ∷ l)
+read-kind : (v : Version) (b : ℕ) (l : List ℕ) (k : Kind) → kindAmong b (kinds v) ≡ some k → readAt v (b ∷ l) ≡ readOn v (fieldsOf v k) 1 (blank k) (b ∷ l)
 unfolding readAt parse readOn
-read-kind b l k e = ap (λ (o : Option Kind). readingOf v01 (parseKind v01 o l)) e ∙ go (decodeAll (formsOf v01 (fieldsOf v01 k)) l)
+read-kind v b l k e = ap (λ (o : Option Kind). readingOf v (parseKind v o l)) e ∙ go (decodeAll (formsOf v (fieldsOf v k)) l)
   where
-    go : (d : Decoded (ValuesOf (formsOf v01 (fieldsOf v01 k)))) → readingOf v01 (whole v01 k d) ≡ ending v01 (fieldsOf v01 k) 1 (blank k) d
+    go : (d : Decoded (ValuesOf (formsOf v (fieldsOf v k)))) → readingOf v (whole v k d) ≡ ending v (fieldsOf v k) 1 (blank k) d
     go nothing = refl
     go (found x []) = refl
     go (found x (c ∷ m)) = refl
 
-read-unknown : (b : ℕ) (l : List ℕ) → kindAmong b (kinds v01) ≡ none → readAt v01 (b ∷ l) ≡ answer.Refused RECORD
+read-unknown : (v : Version) (b : ℕ) (l : List ℕ) → kindAmong b (kinds v) ≡ none → readAt v (b ∷ l) ≡ answer.Refused RECORD
 unfolding readAt parse
-read-unknown b l e = ap (λ (o : Option Kind). readingOf v01 (parseKind v01 o l)) e
+read-unknown v b l e = ap (λ (o : Option Kind). readingOf v (parseKind v o l)) e
 
 -- what the first byte decides, if there is one
-pub read-empty : (l : List ℕ) → length l < 1 → readAt v01 l ≡ answer.Refused RECORD
+pub read-empty : (v : Version) (l : List ℕ) → length l < 1 → readAt v l ≡ answer.Refused RECORD
 unfolding readAt parse
-read-empty [] h = refl
-read-empty (b ∷ l) h = absurd (omega arith)
+read-empty v [] h = refl
+read-empty v (b ∷ l) h = absurd (omega arith)
 
-pub read-known : (l : List ℕ) (k : Kind) → 1 ≤ length l → a.Kind k ≡ named (getD l 0 0) → readAt v01 l ≡ readOn v01 (fieldsOf v01 k) 1 (blank k) l
+pub read-known : (v : Version) (l : List ℕ) (k : Kind) → 1 ≤ length l → a.Kind k ≡ named v (getD l 0 0) → readAt v l ≡ readOn v (fieldsOf v k) 1 (blank k) l
 unfolding named
-read-known [] k h e = absurd (omega arith)
-read-known (b ∷ l) k h e = read-kind b l k (named-kind (kindAmong b (kinds v01)) k e)
+read-known v [] k h e = absurd (omega arith)
+read-known v (b ∷ l) k h e = read-kind v b l k (named-kind (kindAmong b (kinds v)) k e)
 
-pub read-strange : (l : List ℕ) → 1 ≤ length l → a.Unknown ≡ named (getD l 0 0) → readAt v01 l ≡ answer.Refused RECORD
+pub read-strange : (v : Version) (l : List ℕ) → 1 ≤ length l → a.Unknown ≡ named v (getD l 0 0) → readAt v l ≡ answer.Refused RECORD
 unfolding named
-read-strange [] h e = absurd (omega arith)
-read-strange (b ∷ l) h e = read-unknown b l (named-none (kindAmong b (kinds v01)) e)
+read-strange v [] h e = absurd (omega arith)
+read-strange v (b ∷ l) h e = read-unknown v b l (named-none (kindAmong b (kinds v)) e)
 
 -- the returns of `read_record`: m is what `kind_named` said of the first byte, and x what the kind's fields gave
-pub empty-record : (l : List ℕ) → length l < 1 → answer.Refused RECORD ≡ readAt v01 l
-empty-record l h = sym (read-empty l h)
+pub empty-record : (v : Version) (l : List ℕ) → length l < 1 → answer.Refused RECORD ≡ readAt v l
+empty-record v l h = sym (read-empty v l h)
 
-module _ (l : List ℕ) (h : 1 ≤ length l) (m : Named) (e : m ≡ named (getD l 0 0)) where
-  pub strange-record : m ≡ a.Unknown → answer.Refused RECORD ≡ readAt v01 l
-  strange-record u = sym (read-strange l h (sym u ∙ e))
+module _ (v : Version) (l : List ℕ) (h : 1 ≤ length l) (m : Named) (e : m ≡ named v (getD l 0 0)) where
+  pub strange-record : m ≡ a.Unknown → answer.Refused RECORD ≡ readAt v l
+  strange-record u = sym (read-strange v l h (sym u ∙ e))
 
-  pub known-record : (k : Kind) (x : Reading) → m ≡ a.Kind k → x ≡ readOn v01 (fieldsOf v01 k) 1 (blank k) l → x ≡ readAt v01 l
-  known-record k x u p = p ∙ sym (read-known l k h (sym u ∙ e))
+  pub known-record : (k : Kind) (x : Reading) → m ≡ a.Kind k → x ≡ readOn v (fieldsOf v k) 1 (blank k) l → x ≡ readAt v l
+  known-record k x u p = p ∙ sym (read-known v l k h (sym u ∙ e))
 
 -- the loop over the fields of a kind: what those from i on make of r, from the place on, is what all of them make of the blank record r₀
-pub record ReadLoop (l : List ℕ) (r₀ : Record) (fields : List Field) (count : ℕ) (r : Record) (at i : ℕ) : Type 0 where
-  pub table : fields ≡ padded (fieldsOf v01 (r₀ .kind))
-  pub all : count ≡ length (fieldsOf v01 (r₀ .kind))
+pub record ReadLoop (v : Version) (l : List ℕ) (r₀ : Record) (fields : List Field) (count : ℕ) (r : Record) (at i : ℕ) : Type 0 where
+  pub table : fields ≡ padded (fieldsOf v (r₀ .kind))
+  pub all : count ≡ length (fieldsOf v (r₀ .kind))
   pub few : count ≤ fieldsMost
   pub place : i ≤ count
   pub within : at ≤ length l
   pub each : (j : ℕ) → Fits w8 (getD l j 0)
-  pub rest : readOn v01 (fieldsOf v01 (r₀ .kind)) 1 r₀ l ≡ readOn v01 (drop i (fieldsOf v01 (r₀ .kind))) at r l
+  pub rest : readOn v (fieldsOf v (r₀ .kind)) 1 r₀ l ≡ readOn v (drop i (fieldsOf v (r₀ .kind))) at r l
 
-module _ (k : Kind) (l : List ℕ) (r₀ : Record) (fields : List Field) (count : ℕ) (b : r₀ ≡ blank k) where
-  pub fields-start : fields ≡ padded (fieldsOf v01 k) → count ≡ length (fieldsOf v01 k) → count ≤ fieldsMost → 1 ≤ length l → ((j : ℕ) → Fits w8 (getD l j 0))
-      → ReadLoop l r₀ fields count r₀ 1 0
+module _ (v : Version) (k : Kind) (l : List ℕ) (r₀ : Record) (fields : List Field) (count : ℕ) (b : r₀ ≡ blank k) where
+  pub fields-start : fields ≡ padded (fieldsOf v k) → count ≡ length (fieldsOf v k) → count ≤ fieldsMost → 1 ≤ length l → ((j : ℕ) → Fits w8 (getD l j 0))
+      → ReadLoop v l r₀ fields count r₀ 1 0
   fields-start t n m h e =
       record { table = rw b t; all = rw b n; few = m; place = omega arith; within = h; each = e; rest = refl }
 
-  module _ (r : Record) (at i : ℕ) (h : ReadLoop l r₀ fields count r at i) where
-    left : readOn v01 (fieldsOf v01 k) 1 (blank k) l ≡ readOn v01 (drop i (fieldsOf v01 (r₀ .kind))) at r l
-    left = ap (λ (q : Record). readOn v01 (fieldsOf v01 (q .kind)) 1 q l) (sym b) ∙ h .rest
+  module _ (r : Record) (at i : ℕ) (h : ReadLoop v l r₀ fields count r at i) where
+    left : readOn v (fieldsOf v k) 1 (blank k) l ≡ readOn v (drop i (fieldsOf v (r₀ .kind))) at r l
+    left = ap (λ (q : Record). readOn v (fieldsOf v (q .kind)) 1 q l) (sym b) ∙ h .rest
 
-    none-left : count ≤ i → readOn v01 (fieldsOf v01 k) 1 (blank k) l ≡ readOn v01 [] at r l
-    none-left c = left ∙ rw (drop-of-length-le (fieldsOf v01 (r₀ .kind)) {i = i} (omega arith))
+    none-left : count ≤ i → readOn v (fieldsOf v k) 1 (blank k) l ≡ readOn v [] at r l
+    none-left c = left ∙ rw (drop-of-length-le (fieldsOf v (r₀ .kind)) {i = i} (omega arith))
 
-    pub fields-over : count ≤ i → at < length l → answer.Refused RECORD ≡ readOn v01 (fieldsOf v01 k) 1 (blank k) l
-    fields-over c w = sym (none-left c ∙ left-over v01 at r l w)
+    pub fields-over : count ≤ i → at < length l → answer.Refused RECORD ≡ readOn v (fieldsOf v k) 1 (blank k) l
+    fields-over c w = sym (none-left c ∙ left-over v at r l w)
 
-    pub fields-end : count ≤ i → length l ≤ at → answer.Fits r ≡ readOn v01 (fieldsOf v01 k) 1 (blank k) l
-    fields-end c w = sym (none-left c ∙ ended v01 at r l w)
+    pub fields-end : count ≤ i → length l ≤ at → answer.Fits r ≡ readOn v (fieldsOf v k) 1 (blank k) l
+    fields-end c w = sym (none-left c ∙ ended v at r l w)
 
 -- s is what the reader of field i said
-module _ (l : List ℕ) (r₀ : Record) (fields : List Field) (count : ℕ) (r : Record) (at i : ℕ) (h : ReadLoop l r₀ fields count r at i) (c : i < count) (s : Step)
-    (e : s ≡ stepTo v01 (getD fields i its.Account) at r (decode (formatOf v01 (getD fields i its.Account)) (drop at l))) where
-  here : drop i (fieldsOf v01 (r₀ .kind)) ≡ getD fields i its.Account ∷ drop (suc i) (fieldsOf v01 (r₀ .kind))
-  here = rw (h .table) (field-at (fieldsOf v01 (r₀ .kind)) i (omega arith))
+module _ (v : Version) (l : List ℕ) (r₀ : Record) (fields : List Field) (count : ℕ) (r : Record) (at i : ℕ) (h : ReadLoop v l r₀ fields count r at i) (c : i < count) (s : Step)
+    (e : s ≡ stepTo v (getD fields i its.Account) at r (decode (formatOf v (getD fields i its.Account)) (drop at l))) where
+  here : drop i (fieldsOf v (r₀ .kind)) ≡ getD fields i its.Account ∷ drop (suc i) (fieldsOf v (r₀ .kind))
+  here = rw (h .table) (field-at (fieldsOf v (r₀ .kind)) i (omega arith))
 
-  pub fields-stop : (k : Kind) → r₀ ≡ blank k → s ≡ Refused → answer.Refused RECORD ≡ readOn v01 (fieldsOf v01 k) 1 (blank k) l
+  pub fields-stop : (k : Kind) → r₀ ≡ blank k → s ≡ Refused → answer.Refused RECORD ≡ readOn v (fieldsOf v k) 1 (blank k) l
   fields-stop k b u =
-      sym (left k l r₀ fields count b r at i h ∙ rw here (stopped v01 (getD fields i its.Account) (drop (suc i) (fieldsOf v01 (r₀ .kind))) at r l (sym u ∙ e)))
+      sym (left v k l r₀ fields count b r at i h ∙ rw here (stopped v (getD fields i its.Account) (drop (suc i) (fieldsOf v (r₀ .kind))) at r l (sym u ∙ e)))
 
-  pub fields-step : (q : Record) (next : ℕ) → s ≡ Next q next → ReadLoop l r₀ fields count q next (i + 1)
+  pub fields-step : (q : Record) (next : ℕ) → s ≡ Next q next → ReadLoop v l r₀ fields count q next (i + 1)
   fields-step q next u =
-      let p = passed v01 (getD fields i its.Account) (drop (suc i) (fieldsOf v01 (r₀ .kind))) at r l q next (bytes-known l (λ j. h .each j .fits)) (h .within) (sym u ∙ e) in
+      let p = passed v (getD fields i its.Account) (drop (suc i) (fieldsOf v (r₀ .kind))) at r l q next (bytes-known l (λ j. h .each j .fits)) (h .within) (sym u ∙ e) in
       record {
         table = h .table;
         all = h .all;

@@ -1,6 +1,6 @@
 -- The steps of reading one field, as the code takes them. Assumes nothing.
 use mathlib.Core.Path.{_≡_, refl, sym, _∙_, ap}
-use mathlib.Core.Bool.{Bool, true, false}
+use mathlib.Core.Bool.{Bool, true, false, false≢true}
 use mathlib.Core.List.{List, []}
 use Prim.Native.Nat.{ℕ, _+_, _^_, _<_, _≤_}
 use native.Mathlib.Omega.{arith}
@@ -22,7 +22,7 @@ use Rattle.journal.specs.Numbers.{bytesOf, numberOf}
 use Rattle.journal.specs.NumberLaws.{length-bytesOf, numberOf-lt}
 use Rattle.journal.specs.Fields.{text, cap, mode, Decoded, nothing, found, onFound, part, asText, asCap, asMode, decodeNumber, decodeText, decode, encode, ValueOf}
 use Rattle.journal.specs.FieldLaws.{bytes-take}
-use Rattle.journal.specs.Records.{v01, formatOf}
+use Rattle.journal.specs.Records.{Version, v01, textWidth, textMost, formatOf}
 use Rattle.journal.specs.Places.{place}
 use Rattle.journal.specs.Table.{numberAt, asAnswer, widthOf, stepNumber, stepTo}
 use Rattle.journal.proofs.ByteLaws.{part-there, part-cut}
@@ -69,12 +69,12 @@ valued-lt w l n h v = rw (v .is) (rw (length-take-le w l (v .room)) at (numberOf
 -- ---- one field
 
 -- a field that was there, of k bytes
-pub step-found : (f : Field) (at : ℕ) (r : Record) (l : List ℕ) (x : ValueOf (formatOf v01 f)) (rest : List ℕ) (k : ℕ) → decode (formatOf v01 f) l ≡ found x rest
-    → length (encode (formatOf v01 f) x) ≡ k → Next (place v01 f at x r) (at + k) ≡ stepTo v01 f at r (decode (formatOf v01 f) l)
-step-found f at r l x rest k e h = sym (ap (stepTo v01 f at r) e ∙ ap (λ (n : ℕ). Next (place v01 f at x r) (at + n)) h)
+pub step-found : (v : Version) (f : Field) (at : ℕ) (r : Record) (l : List ℕ) (x : ValueOf (formatOf v f)) (rest : List ℕ) (k : ℕ) → decode (formatOf v f) l ≡ found x rest
+    → length (encode (formatOf v f) x) ≡ k → Next (place v f at x r) (at + k) ≡ stepTo v f at r (decode (formatOf v f) l)
+step-found v f at r l x rest k e h = sym (ap (stepTo v f at r) e ∙ ap (λ (n : ℕ). Next (place v f at x r) (at + n)) h)
 
-pub step-nothing : (f : Field) (at : ℕ) (r : Record) (l : List ℕ) → decode (formatOf v01 f) l ≡ nothing → Refused ≡ stepTo v01 f at r (decode (formatOf v01 f) l)
-step-nothing f at r l e = sym (ap (stepTo v01 f at r) e)
+pub step-nothing : (v : Version) (f : Field) (at : ℕ) (r : Record) (l : List ℕ) → decode (formatOf v f) l ≡ nothing → Refused ≡ stepTo v f at r (decode (formatOf v f) l)
+step-nothing v f at r l e = sym (ap (stepTo v f at r) e)
 
 -- bytes
 pub part-none : (n : ℕ) (l : List ℕ) → length l < n → part n l ≡ nothing
@@ -112,14 +112,15 @@ abbrev pub withText : ℕ → ℕ → Record → Record
 withText at n r =
     record { kind = r .kind; account = r .account; no = r .no; slot = r .slot; k = r .k; m = r .m; text = at; «text_len» = n; amount = r .amount; hash = r .hash; mode = r .mode; cap = r .cap; «from» = r .«from»; until = r .until }
 
-pub step-text : (at : ℕ) (r : Record) (l : List ℕ) (n : ℕ) → Valued 1 l n → n ≤ 255 → n ≤ length (drop 1 l)
-    → Next (withText (at + 1) n r) (at + 1 + n) ≡ stepTo v01 its.Text at r (decode (text 1 255) l)
-step-text at r l n v h k =
-    let t = take n (drop 1 l) in
-    let e : length t ≡ n = length-take-le n (drop 1 l) k in
-    let z : at + 1 + n ≡ at + (1 + n) = omega arith in
-    ap (λ (m : ℕ). Next (withText (at + 1) m r) (at + 1 + n)) (sym e) ∙ ap (λ (m : ℕ). Next (place v01 its.Text at t r) m) z
-    ∙ step-found its.Text at r l t (drop n (drop 1 l)) (1 + n) (text-full 1 255 l n v h k) (length-text 1 255 t n e)
+pub step-text : (v : Version) (at : ℕ) (r : Record) (l : List ℕ) (n : ℕ) → Valued (textWidth v) l n → n ≤ textMost v → n ≤ length (drop (textWidth v) l)
+    → Next (withText (at + textWidth v) n r) (at + textWidth v + n) ≡ stepTo v its.Text at r (decode (text (textWidth v) (textMost v)) l)
+step-text v at r l n d h k =
+    let w = textWidth v in
+    let t = take n (drop w l) in
+    let e : length t ≡ n = length-take-le n (drop w l) k in
+    let z : at + w + n ≡ at + (w + n) = omega arith in
+    ap (λ (m : ℕ). Next (withText (at + w) m r) (at + w + n)) (sym e) ∙ ap (λ (m : ℕ). Next (place v its.Text at t r) m) z
+    ∙ step-found v its.Text at r l t (drop n (drop w l)) (w + n) (text-full w (textMost v) l n d h k) (length-text w (textMost v) t n e)
 
 -- a mode and a cap: the byte, then what it stands for
 pub mode-cut : (l : List ℕ) → decodeNumber 1 l ≡ nothing → decode mode l ≡ nothing
@@ -155,47 +156,82 @@ on-both : {A B : Type 0} (s t : Decoded A → B) → s nothing ≡ t nothing →
 on-both s t p q nothing = p
 on-both s t p q (found n rest) = q n rest
 
-pub number-field : (f : Field) (at : ℕ) (r : Record) (l : List ℕ) → 0 < widthOf f
-    → stepNumber f at r (decodeNumber (widthOf f) l) ≡ stepTo v01 f at r (decode (formatOf v01 f) l)
+pub number-field : (v : Version) (f : Field) (at : ℕ) (r : Record) (l : List ℕ) → 0 < widthOf f
+    → stepNumber f at r (decodeNumber (widthOf f) l) ≡ stepTo v f at r (decode (formatOf v f) l)
 unfolding decode encode
-number-field its.Account at r l h = absurd (omega arith)
-number-field its.No at r l h =
-    on-both (stepNumber its.No at r) (stepTo v01 its.No at r) refl (λ n rest. ap (λ (k : ℕ). Next (place v01 its.No at n r) (at + k)) (sym (length-bytesOf 4 n))) (decodeNumber 4 l)
-number-field its.Slot at r l h =
-    on-both (stepNumber its.Slot at r) (stepTo v01 its.Slot at r) refl (λ n rest. ap (λ (k : ℕ). Next (place v01 its.Slot at n r) (at + k)) (sym (length-bytesOf 1 n))) (decodeNumber 1 l)
-number-field its.K at r l h =
-    on-both (stepNumber its.K at r) (stepTo v01 its.K at r) refl (λ n rest. ap (λ (k : ℕ). Next (place v01 its.K at n r) (at + k)) (sym (length-bytesOf 1 n))) (decodeNumber 1 l)
-number-field its.M at r l h =
-    on-both (stepNumber its.M at r) (stepTo v01 its.M at r) refl (λ n rest. ap (λ (k : ℕ). Next (place v01 its.M at n r) (at + k)) (sym (length-bytesOf 1 n))) (decodeNumber 1 l)
-number-field its.Text at r l h = absurd (omega arith)
-number-field its.Amount at r l h =
-    on-both (stepNumber its.Amount at r) (stepTo v01 its.Amount at r) refl (λ n rest. ap (λ (k : ℕ). Next (place v01 its.Amount at n r) (at + k)) (sym (length-bytesOf 8 n))) (decodeNumber 8 l)
-number-field its.Hash at r l h = absurd (omega arith)
-number-field its.Mode at r l h = absurd (omega arith)
-number-field its.Cap at r l h = absurd (omega arith)
-number-field its.From at r l h =
-    on-both (stepNumber its.From at r) (stepTo v01 its.From at r) refl (λ n rest. ap (λ (k : ℕ). Next (place v01 its.From at n r) (at + k)) (sym (length-bytesOf 8 n))) (decodeNumber 8 l)
-number-field its.Until at r l h =
-    on-both (stepNumber its.Until at r) (stepTo v01 its.Until at r) refl (λ n rest. ap (λ (k : ℕ). Next (place v01 its.Until at n r) (at + k)) (sym (length-bytesOf 8 n))) (decodeNumber 8 l)
-number-field its.None at r l h = absurd (omega arith)
+number-field v its.Account at r l h = absurd (omega arith)
+number-field v its.No at r l h =
+    on-both (stepNumber its.No at r) (stepTo v its.No at r) refl (λ n rest. ap (λ (k : ℕ). Next (place v its.No at n r) (at + k)) (sym (length-bytesOf 4 n))) (decodeNumber 4 l)
+number-field v its.Slot at r l h =
+    on-both (stepNumber its.Slot at r) (stepTo v its.Slot at r) refl (λ n rest. ap (λ (k : ℕ). Next (place v its.Slot at n r) (at + k)) (sym (length-bytesOf 1 n))) (decodeNumber 1 l)
+number-field v its.K at r l h =
+    on-both (stepNumber its.K at r) (stepTo v its.K at r) refl (λ n rest. ap (λ (k : ℕ). Next (place v its.K at n r) (at + k)) (sym (length-bytesOf 1 n))) (decodeNumber 1 l)
+number-field v its.M at r l h =
+    on-both (stepNumber its.M at r) (stepTo v its.M at r) refl (λ n rest. ap (λ (k : ℕ). Next (place v its.M at n r) (at + k)) (sym (length-bytesOf 1 n))) (decodeNumber 1 l)
+number-field v its.Text at r l h = absurd (omega arith)
+number-field v its.Amount at r l h =
+    on-both (stepNumber its.Amount at r) (stepTo v its.Amount at r) refl (λ n rest. ap (λ (k : ℕ). Next (place v its.Amount at n r) (at + k)) (sym (length-bytesOf 8 n))) (decodeNumber 8 l)
+number-field v its.Hash at r l h = absurd (omega arith)
+number-field v its.Mode at r l h = absurd (omega arith)
+number-field v its.Cap at r l h = absurd (omega arith)
+number-field v its.From at r l h =
+    on-both (stepNumber its.From at r) (stepTo v its.From at r) refl (λ n rest. ap (λ (k : ℕ). Next (place v its.From at n r) (at + k)) (sym (length-bytesOf 8 n))) (decodeNumber 8 l)
+number-field v its.Until at r l h =
+    on-both (stepNumber its.Until at r) (stepTo v its.Until at r) refl (λ n rest. ap (λ (k : ℕ). Next (place v its.Until at n r) (at + k)) (sym (length-bytesOf 8 n))) (decodeNumber 8 l)
+number-field v its.None at r l h = absurd (omega arith)
 
 -- no field: no byte
-pub none-step : (at : ℕ) (r : Record) (l : List ℕ) → Next r at ≡ stepTo v01 its.None at r (decode (formatOf v01 its.None) l)
+pub none-step : (v : Version) (at : ℕ) (r : Record) (l : List ℕ) → Next r at ≡ stepTo v its.None at r (decode (formatOf v its.None) l)
 unfolding decode encode
-none-step at r l =
+none-step v at r l =
     let z : at ≡ at + 0 = omega arith in
-    ap (λ (k : ℕ). Next r k) z ∙ step-found its.None at r l [] l 0 (part-some 0 l (omega arith)) refl
+    ap (λ (k : ℕ). Next r k) z ∙ step-found v its.None at r l [] l 0 (part-some 0 l (omega arith)) refl
+
+-- a field that is not a text is read alike in every version
+abbrev isPlain : Field → Bool
+isPlain its.Account = true
+isPlain its.No = true
+isPlain its.Slot = true
+isPlain its.K = true
+isPlain its.M = true
+isPlain its.Text = false
+isPlain its.Amount = true
+isPlain its.Hash = true
+isPlain its.Mode = true
+isPlain its.Cap = true
+isPlain its.From = true
+isPlain its.Until = true
+isPlain its.None = true
+
+plain-step : (v : Version) (g : Field) (at : ℕ) (r : Record) (l : List ℕ) → isPlain g ≡ true
+    → stepTo v01 g at r (decode (formatOf v01 g) l) ≡ stepTo v g at r (decode (formatOf v g) l)
+plain-step v its.Account at r l h = on-both (stepTo v01 its.Account at r) (stepTo v its.Account at r) refl (λ x rest. refl) (decode (formatOf v its.Account) l)
+plain-step v its.No at r l h = on-both (stepTo v01 its.No at r) (stepTo v its.No at r) refl (λ x rest. refl) (decode (formatOf v its.No) l)
+plain-step v its.Slot at r l h = on-both (stepTo v01 its.Slot at r) (stepTo v its.Slot at r) refl (λ x rest. refl) (decode (formatOf v its.Slot) l)
+plain-step v its.K at r l h = on-both (stepTo v01 its.K at r) (stepTo v its.K at r) refl (λ x rest. refl) (decode (formatOf v its.K) l)
+plain-step v its.M at r l h = on-both (stepTo v01 its.M at r) (stepTo v its.M at r) refl (λ x rest. refl) (decode (formatOf v its.M) l)
+plain-step v its.Text at r l h = absurd (false≢true h)
+plain-step v its.Amount at r l h = on-both (stepTo v01 its.Amount at r) (stepTo v its.Amount at r) refl (λ x rest. refl) (decode (formatOf v its.Amount) l)
+plain-step v its.Hash at r l h = on-both (stepTo v01 its.Hash at r) (stepTo v its.Hash at r) refl (λ x rest. refl) (decode (formatOf v its.Hash) l)
+plain-step v its.Mode at r l h = on-both (stepTo v01 its.Mode at r) (stepTo v its.Mode at r) refl (λ x rest. refl) (decode (formatOf v its.Mode) l)
+plain-step v its.Cap at r l h = on-both (stepTo v01 its.Cap at r) (stepTo v its.Cap at r) refl (λ x rest. refl) (decode (formatOf v its.Cap) l)
+plain-step v its.From at r l h = on-both (stepTo v01 its.From at r) (stepTo v its.From at r) refl (λ x rest. refl) (decode (formatOf v its.From) l)
+plain-step v its.Until at r l h = on-both (stepTo v01 its.Until at r) (stepTo v its.Until at r) refl (λ x rest. refl) (decode (formatOf v its.Until) l)
+plain-step v its.None at r l h = on-both (stepTo v01 its.None at r) (stepTo v its.None at r) refl (λ x rest. refl) (decode (formatOf v its.None) l)
 
 -- the arms of the match on the field: f is the field that the arm names, and s what the arm's function returned
-module _ (f : Field) (at : ℕ) (r : Record) (l : List ℕ) where
+module _ (v : Version) (f : Field) (at : ℕ) (r : Record) (l : List ℕ) where
   pub by-number : (g : Field) (s : Step) → f ≡ g → ltb 0 (widthOf g) ≡ true → s ≡ stepNumber f at r (decodeNumber (widthOf f) l)
-      → s ≡ stepTo v01 f at r (decode (formatOf v01 f) l)
-  by-number g s e w h = h ∙ number-field f at r l (rw e (ltb-true 0 (widthOf g) w))
+      → s ≡ stepTo v f at r (decode (formatOf v f) l)
+  by-number g s e w h = h ∙ number-field v f at r l (rw e (ltb-true 0 (widthOf g) w))
 
-  pub by-arm : (g : Field) (s : Step) → f ≡ g → s ≡ stepTo v01 g at r (decode (formatOf v01 g) l) → s ≡ stepTo v01 f at r (decode (formatOf v01 f) l)
+  pub by-arm : (g : Field) (s : Step) → f ≡ g → s ≡ stepTo v g at r (decode (formatOf v g) l) → s ≡ stepTo v f at r (decode (formatOf v f) l)
   by-arm g s e h = rw e h
 
-  pub none-arm : f ≡ its.None → Next r at ≡ stepTo v01 f at r (decode (formatOf v01 f) l)
-  none-arm e = rw e (none-step at r l)
+  pub by-plain : (g : Field) (s : Step) → f ≡ g → isPlain g ≡ true → s ≡ stepTo v01 g at r (decode (formatOf v01 g) l) → s ≡ stepTo v f at r (decode (formatOf v f) l)
+  by-plain g s e p h = h ∙ plain-step v g at r l p ∙ rw e
 
-pub ruleset steps = (by-number, by-arm, none-arm)
+  pub none-arm : f ≡ its.None → Next r at ≡ stepTo v f at r (decode (formatOf v f) l)
+  none-arm e = rw e (none-step v at r l)
+
+pub ruleset steps = (by-number, by-arm, by-plain, none-arm)

@@ -16,7 +16,8 @@ use Rattle.journal.specs.declared.Field.{Field}
 use Rattle.journal.specs.declared.Field.the-variants as its
 use Rattle.journal.specs.declared.Named.the-variants as a
 use Rattle.lists.specs.BoolLaws.{and-left, and-right}
-use Rattle.journal.specs.Records.{v01, fieldsOf, kindNumber, kinds, kindAmong}
+use Rattle.journal.specs.Records.{Version, fieldsOf, kindNumber, kinds, allKinds, kindAmong}
+use Rattle.journal.specs.VersionLaws.{kinds-all}
 use Rattle.journal.specs.Table.{allFields, fieldNumber, named, namedBy, padded}
 
 -- the kinds are numbered one after another from i
@@ -48,26 +49,29 @@ no-kind i n (k ∷ ks) t h =
     rw (ne-eqb n (kindNumber k) ne) (no-kind (suc i) n ks (and-right (eqb (kindNumber k) i) _ t) r)
 
 -- what a byte names: nothing before 1 and after 16, and else the kind at its place
-module _ (n : ℕ) where
-  pub names-none-low : n < 1 → a.Unknown ≡ named n
-  unfolding named
-  names-none-low h = sym (ap namedBy (no-kind 1 n (kinds v01) refl (inl h)))
+module _ (v : Version) (n : ℕ) where
+  among : kindAmong n (kinds v) ≡ kindAmong n allKinds
+  among = ap (kindAmong n) (kinds-all v)
 
-  pub names-none-high : 16 < n → a.Unknown ≡ named n
+  pub names-none-low : n < 1 → a.Unknown ≡ named v n
   unfolding named
-  names-none-high h = sym (ap namedBy (no-kind 1 n (kinds v01) refl (inr (omega arith))))
+  names-none-low h = sym (ap namedBy (among ∙ no-kind 1 n allKinds refl (inl h)))
 
-  pub names-kind : (d : Kind) → 1 ≤ n → n ≤ 16 → a.Kind (getD (kinds v01) (n - 1) d) ≡ named n
+  pub names-none-high : 16 < n → a.Unknown ≡ named v n
+  unfolding named
+  names-none-high h = sym (ap namedBy (among ∙ no-kind 1 n allKinds refl (inr (omega arith))))
+
+  pub names-kind : (d : Kind) → 1 ≤ n → n ≤ 16 → a.Kind (getD allKinds (n - 1) d) ≡ named v n
   unfolding named
   names-kind d h k =
       let e : 1 + (n - 1) ≡ n = omega arith in
-      sym (ap namedBy (ap (λ (m : ℕ). kindAmong m (kinds v01)) (sym e) ∙ kind-at 1 (kinds v01) (n - 1) d refl (omega arith)))
+      sym (ap namedBy (among ∙ ap (λ (m : ℕ). kindAmong m allKinds) (sym e) ∙ kind-at 1 allKinds (n - 1) d refl (omega arith)))
 
 pub ruleset names = (names-none-low, names-none-high, names-kind)
 
 -- the arms of a match on a kind, each with the numbers of its fields
-pub by-kind : (k v : Kind) (l : List ℕ) → k ≡ v → l ≡ map fieldNumber (padded (fieldsOf v01 v)) → l ≡ map fieldNumber (padded (fieldsOf v01 k))
-by-kind k v l e h = rw e h
+pub by-kind : (v : Version) (k j : Kind) (l : List ℕ) → k ≡ j → l ≡ map fieldNumber (padded (fieldsOf v j)) → l ≡ map fieldNumber (padded (fieldsOf v k))
+by-kind v k j l e h = rw e h
 
 -- the field of a number, whatever stands past the end
 getD-any : {A : Type 0} (l : List A) (i : ℕ) (d d′ : A) → i < length l → getD l i d ≡ getD l i d′
@@ -102,28 +106,28 @@ numbers-most (f ∷ l) (suc i) = numbers-most l i
 abbrev fieldIn : List ℕ → ℕ → Field
 fieldIn n i = getD allFields (getD n i 0) its.None
 
-row : (k : Kind) → (let n = map fieldNumber (padded (fieldsOf v01 k)) in fieldIn n 0 ∷ fieldIn n 1 ∷ fieldIn n 2 ∷ fieldIn n 3 ∷ fieldIn n 4 ∷ fieldIn n 5 ∷ fieldIn n 6 ∷ []) ≡ padded (fieldsOf v01 k)
-row Advance = refl
-row Create = refl
-row Deposit = refl
-row Delete = refl
-row Undelete = refl
-row Grant = refl
-row Attenuate = refl
-row Revoke = refl
-row Open = refl
-row Stage = refl
-row Commit = refl
-row Abandon = refl
-row Remove = refl
-row Look = refl
-row Register = refl
-row Heartbeat = refl
+row : (v : Version) (k : Kind) → (let n = map fieldNumber (padded (fieldsOf v k)) in fieldIn n 0 ∷ fieldIn n 1 ∷ fieldIn n 2 ∷ fieldIn n 3 ∷ fieldIn n 4 ∷ fieldIn n 5 ∷ fieldIn n 6 ∷ []) ≡ padded (fieldsOf v k)
+row v Advance = refl
+row v Create = refl
+row v Deposit = refl
+row v Delete = refl
+row v Undelete = refl
+row v Grant = refl
+row v Attenuate = refl
+row v Revoke = refl
+row v Open = refl
+row v Stage = refl
+row v Commit = refl
+row v Abandon = refl
+row v Remove = refl
+row v Look = refl
+row v Register = refl
+row v Heartbeat = refl
 
-module _ (k : Kind) (n : List ℕ) (h : n ≡ map fieldNumber (padded (fieldsOf v01 k))) where
+module _ (v : Version) (k : Kind) (n : List ℕ) (h : n ≡ map fieldNumber (padded (fieldsOf v k))) where
   pub number-below : (i : ℕ) → getD n i 0 < 13
-  number-below i = rw h (numbers-most (padded (fieldsOf v01 k)) i)
+  number-below i = rw h (numbers-most (padded (fieldsOf v k)) i)
 
   pub fields-made : (xa xb xc xd xe xf xg : Field) → xa ≡ getD allFields (getD n 0 0) its.None → xb ≡ getD allFields (getD n 1 0) its.None → xc ≡ getD allFields (getD n 2 0) its.None → xd ≡ getD allFields (getD n 3 0) its.None → xe ≡ getD allFields (getD n 4 0) its.None → xf ≡ getD allFields (getD n 5 0) its.None → xg ≡ getD allFields (getD n 6 0) its.None
-      → (xa ∷ xb ∷ xc ∷ xd ∷ xe ∷ xf ∷ xg ∷ []) ≡ padded (fieldsOf v01 k)
-  fields-made xa xb xc xd xe xf xg ea eb ec ed ee ef eg = rw (ea, eb, ec, ed, ee, ef, eg, h) (row k)
+      → (xa ∷ xb ∷ xc ∷ xd ∷ xe ∷ xf ∷ xg ∷ []) ≡ padded (fieldsOf v k)
+  fields-made xa xb xc xd xe xf xg ea eb ec ed ee ef eg = rw (ea, eb, ec, ed, ee, ef, eg, h) (row v k)

@@ -8,6 +8,8 @@ use lib.ListN.{length, take, drop}
 use Rattle.rules.specs.Calls.{Call}
 use Rattle.journal.specs.declared.Reading.{Reading}
 use Rattle.journal.specs.declared.Reading.the-variants.{Fits, Refused}
+use Rattle.journal.specs.declared.Start.{Start}
+use Rattle.journal.specs.declared.Start.the-variants.{Records, Fault}
 use Rattle.journal.specs.declared.Next.{Next}
 use Rattle.journal.specs.declared.Next.the-variants.{End, Whole, Stop}
 use Rattle.journal.specs.Fields.{Decoded, nothing, found, text, decode}
@@ -91,13 +93,17 @@ contents l = cond (ltb journalMost (length l)) (stopped TOO-LARGE) (versioned l)
 
 -- ---- as the code takes a journal apart
 
--- 0, or the number of a journal that has no records to read
-abbrev pub versionFault : List ℕ → ℕ
-versionFault [] = VERSION
-versionFault (b ∷ l) = cond (eqb b 0x01) 0 VERSION
+-- the version of a journal's records, or the number of one that has no records to read
+abbrev pub versionStart : Option Version → Start
+versionStart none = Fault VERSION
+versionStart (some v) = Records v
 
-unfoldable pub startFault : List ℕ → ℕ
-startFault l = cond (ltb journalMost (length l)) TOO-LARGE (versionFault l)
+abbrev pub firstByte : List ℕ → Start
+firstByte [] = Fault VERSION
+firstByte (b ∷ l) = versionStart (versionNumbered b)
+
+unfoldable pub startOf : List ℕ → Start
+startOf l = cond (ltb journalMost (length l)) (Fault TOO-LARGE) (firstByte l)
 
 -- a record's reading, with how many bytes the length and the record have
 abbrev pub onReading : List ℕ → Reading → Next
@@ -123,10 +129,10 @@ unfoldable pub nextIn : Version → List ℕ → Next
 nextIn v [] = End
 nextIn v (b ∷ l) = onBody v (framed (b ∷ l))
 
--- what a journal holds, by the fault at its start
-abbrev pub afterStart : ℕ → List ℕ → Contents
-afterStart zero l = records v01 (drop 1 l)
-afterStart (suc n) l = stopped (suc n)
+-- what a journal holds, by its start
+abbrev pub afterStart : Start → List ℕ → Contents
+afterStart (Records v) l = records v (drop 1 l)
+afterStart (Fault n) l = stopped n
 
 -- what records hold, by what stands next in them: the call of a whole record, then the records after it
 abbrev pub afterNext : Version → List ℕ → Next → Contents

@@ -2,7 +2,7 @@
 use mathlib.Core.Path.{_≡_, refl, _∙_, ap}
 use mathlib.Core.Bool.{Bool, true, false, cond}
 use mathlib.Core.List.{List, [], _∷_, _++_, append-assoc}
-use mathlib.Core.Option.{none, some}
+use mathlib.Core.Option.{Option, none, some}
 use Prim.Native.Nat.{ℕ, zero, suc, _+_, _-_, _≤_}
 use native.Mathlib.Omega.{arith}
 use lib.Dec.{eqb, leb, ltb}
@@ -11,15 +11,16 @@ use lib.ListN.{length, take, drop, length-drop, length-append}
 use lib.Seq.{take-at, drop-at}
 use borrow.Author.Tests.{leb-true}
 use Rattle.journal.specs.Numbers.{bytesOf}
+use Rattle.journal.specs.declared.Start.the-variants.{Fault}
 use Rattle.journal.specs.declared.Reading.{Reading}
 use Rattle.journal.specs.declared.Reading.the-variants.{Fits, Refused}
 use Rattle.journal.specs.Fields.{Decoded, nothing, found, part, asNumber, asText, decodeNumber, decodeText, decode, encode, text}
 use Rattle.journal.specs.FieldLaws.{onFound-found, cond-found, bytes-take, bytes-drop, decode-taken}
 use Rattle.journal.specs.NumberLaws.{length-bytesOf}
-use Rattle.journal.specs.Records.{Version, v01, Parsed, unfit, parsed, parse, readRecord}
+use Rattle.journal.specs.Records.{Version, Parsed, unfit, parsed, parse, readRecord}
 use Rattle.journal.specs.Places.{RECORD, readingOf, readAt, callAt}
 use Rattle.journal.specs.PlaceLaws.{reading-is-call}
-use Rattle.journal.specs.Journal.{journalMost, TOO-LARGE, VERSION, Contents, framed, stopped, onFrame, onCall, recordsIn, records, onVersion, versioned, contents, versionFault, startFault, onReading, onBody, nextIn, afterStart, afterNext}
+use Rattle.journal.specs.Journal.{journalMost, TOO-LARGE, Contents, framed, stopped, onFrame, onCall, recordsIn, records, onVersion, versioned, contents, versionNumbered, versionStart, firstByte, startOf, onReading, onBody, nextIn, afterStart, afterNext}
 
 -- a part that was found leaves so many bytes fewer
 part-shorter : (n : ℕ) (l a r : List ℕ) → part n l ≡ found a r → n + length r ≤ length l
@@ -68,22 +69,19 @@ records-step v b l =
     frame-same v (λ rest. recordsIn v (length l) rest) (records v) (framed (b ∷ l))
     (λ body rest e. enough v (length l) (length rest) rest (omega (arith, framed-shorter (b ∷ l) body rest e)) (omega arith))
 
--- The code's two functions: the fault at the start, and what stands next, give what the journal holds.
-fault-start : (b : ℕ) (l : List ℕ) → versioned (b ∷ l) ≡ afterStart (versionFault (b ∷ l)) (b ∷ l)
-fault-start b l = by (eqb b 0x01)
-  where
-    by : (t : Bool) → onVersion (cond t (some v01) none) l ≡ afterStart (cond t 0 VERSION) (b ∷ l)
-    by true = refl
-    by false = refl
+-- The code's two functions: the start, and what stands next, give what the journal holds.
+version-start : (o : Option Version) (b : ℕ) (l : List ℕ) → onVersion o l ≡ afterStart (versionStart o) (b ∷ l)
+version-start none b l = refl
+version-start (some v) b l = refl
 
-pub start-contents : (l : List ℕ) → contents l ≡ afterStart (startFault l) l
-unfolding contents startFault
+pub start-contents : (l : List ℕ) → contents l ≡ afterStart (startOf l) l
+unfolding contents startOf
 start-contents l = by (ltb journalMost (length l)) l
   where
-    by : (t : Bool) (m : List ℕ) → cond t (stopped TOO-LARGE) (versioned m) ≡ afterStart (cond t TOO-LARGE (versionFault m)) m
+    by : (t : Bool) (m : List ℕ) → cond t (stopped TOO-LARGE) (versioned m) ≡ afterStart (cond t (Fault TOO-LARGE) (firstByte m)) m
     by true m = refl
     by false [] = refl
-    by false (b ∷ m) = fault-start b m
+    by false (b ∷ m) = version-start (versionNumbered b) b m
 
 -- a record in its frame: its bytes, and what follows them
 module _ (l body rest : List ℕ) (h : areBytes l ≡ true) (e : framed l ≡ found body rest) where

@@ -3,6 +3,7 @@ pub mod NumberLaws
 pub mod Fields
 pub mod FieldLaws
 pub mod Records
+pub mod VersionLaws
 pub mod RecordLaws
 pub mod Places
 pub mod PlaceLaws

@@ -19,7 +19,7 @@ use Rattle.journal.specs.Numbers.{bytesOf}
 use Rattle.lists.specs.BoolLaws.{and-left, and-right}
 use Rattle.journal.specs.NumberLaws.{length-bytesOf}
 use Rattle.journal.specs.Fields.{ValueOf, ValuesOf, encode, encodeAll, fits, fitsAll}
-use Rattle.journal.specs.Records.{Version, textWidth, formatOf, formsOf, fieldsOf, Values, callOf, Parsed, unfit, parsed, parse, callParsed, readRecord, recordBytes}
+use Rattle.journal.specs.Records.{Version, v01, textWidth, formatOf, formsOf, fieldsOf, Values, callOf, Parsed, unfit, parsed, parse, callParsed, readRecord, recordBytes}
 use Rattle.journal.specs.RecordLaws.{Given, parse-given}
 use Rattle.journal.specs.Places.{blank, place, placeAll, readingOf, readAt, bytesAt, padded32, valueAt, valuesAt, callAt, callRead}
 
@@ -112,3 +112,25 @@ placed-call v l (parsed k x) h e =
 pub reading-is-call : (v : Version) (l : List ℕ) → areBytes l ≡ true → callRead v (readAt v l) l ≡ readRecord v l
 unfolding readAt readRecord
 reading-is-call v l h = placed-call v l (parse v l) h refl
+
+-- the call that a record stands for is the same in every version: these differ in the bytes alone
+alike : (v : Version) (r : Record) (l : List ℕ) (k : Kind) → callOf v k (valuesAt v (fieldsOf v k) r l) ≡ callOf v01 k (valuesAt v01 (fieldsOf v01 k) r l)
+alike v r l Advance = refl
+alike v r l Create = refl
+alike v r l Deposit = refl
+alike v r l Delete = refl
+alike v r l Undelete = refl
+alike v r l Grant = refl
+alike v r l Attenuate = refl
+alike v r l Revoke = refl
+alike v r l Open = refl
+alike v r l Stage = refl
+alike v r l Commit = refl
+alike v r l Abandon = refl
+alike v r l Remove = refl
+alike v r l Look = refl
+alike v r l Register = refl
+alike v r l Heartbeat = refl
+
+pub call-alike : (v : Version) (r : Record) (l : List ℕ) → callAt v r l ≡ callAt v01 r l
+call-alike v r l = alike v r l (r .kind)

@@ -15,7 +15,8 @@ use Rattle.journal.specs.declared.Kind.the-variants.{Advance, Create, De
 use Rattle.lists.specs.BoolLaws.{and-right}
 use Rattle.journal.specs.Fields.{Decoded, nothing, found, decodeAll, encodeAll, fitsAll}
 use Rattle.journal.specs.FieldLaws.{decode-encode-all, decode-taken-all, TakenAll}
-use Rattle.journal.specs.Records.{Version, v01, fieldsOf, kindNumber, kinds, kindAmong, kindNumbered, formsOf, Values, callOf, kindOf, valuesOf, Parsed, unfit, parsed, whole, parseKind, parse, callParsed, readRecord, recordBytes, writeRecord, writable}
+use Rattle.journal.specs.Records.{Version, fieldsOf, kindNumber, kinds, allKinds, kindAmong, kindNumbered, formsOf, Values, callOf, kindOf, valuesOf, Parsed, unfit, parsed, whole, parseKind, parse, callParsed, readRecord, recordBytes, writeRecord, writable}
+use Rattle.journal.specs.VersionLaws.{kinds-all}
 
 -- ---- calls, and kinds with their values
 
@@ -65,24 +66,27 @@ values-of-call v Heartbeat x = refl
 -- ---- kinds and their numbers
 
 -- the kinds have different numbers, and every version so far has them all
-pub number-of-kind : (v : Version) (k : Kind) → kindNumbered v (kindNumber k) ≡ some k
+number-among : (k : Kind) → kindAmong (kindNumber k) allKinds ≡ some k
 unfolding kindAmong
-number-of-kind v01 Advance = refl
-number-of-kind v01 Create = refl
-number-of-kind v01 Deposit = refl
-number-of-kind v01 Delete = refl
-number-of-kind v01 Undelete = refl
-number-of-kind v01 Grant = refl
-number-of-kind v01 Attenuate = refl
-number-of-kind v01 Revoke = refl
-number-of-kind v01 Open = refl
-number-of-kind v01 Stage = refl
-number-of-kind v01 Commit = refl
-number-of-kind v01 Abandon = refl
-number-of-kind v01 Remove = refl
-number-of-kind v01 Look = refl
-number-of-kind v01 Register = refl
-number-of-kind v01 Heartbeat = refl
+number-among Advance = refl
+number-among Create = refl
+number-among Deposit = refl
+number-among Delete = refl
+number-among Undelete = refl
+number-among Grant = refl
+number-among Attenuate = refl
+number-among Revoke = refl
+number-among Open = refl
+number-among Stage = refl
+number-among Commit = refl
+number-among Abandon = refl
+number-among Remove = refl
+number-among Look = refl
+number-among Register = refl
+number-among Heartbeat = refl
+
+pub number-of-kind : (v : Version) (k : Kind) → kindNumbered v (kindNumber k) ≡ some k
+number-of-kind v k = ap (kindAmong (kindNumber k)) (kinds-all v) ∙ number-among k
 
 pub kind-of-number : (n : ℕ) (ks : List Kind) (k : Kind) → kindAmong n ks ≡ some k → n ≡ kindNumber k
 unfolding kindAmong

@@ -11,6 +11,8 @@ use Rattle.rules.specs.declared.Account.{Account}
 use Rattle.rules.specs.declared.Hash.{Hash}
 use Rattle.rules.specs.Scope.{ScopeArg}
 use Rattle.rules.specs.Calls.{Ask, advance, create, deposit, delete, undelete, grant, attenuate, revoke, remove, look, register, heartbeat, Work, opens, stages, commits, abandons, Call, ask, onSlot}
+pub use Rattle.journal.specs.declared.Version.{Version}
+use Rattle.journal.specs.declared.Version.the-variants.{V01}
 use Rattle.journal.specs.declared.Kind.{Kind}
 use Rattle.journal.specs.declared.Kind.the-variants.{Advance, Create, Deposit, Delete, Undelete, Grant, Attenuate, Revoke, Open, Stage, Commit, Abandon, Remove, Look, Register, Heartbeat}
 use Rattle.journal.specs.declared.Field.{Field}
@@ -18,16 +20,16 @@ use Rattle.journal.specs.declared.Field.the-variants as its
 use Rattle.journal.specs.Fields.{Format, number, text, bytes, cap, mode, ValueOf, ValuesOf, Decoded, nothing, found, decodeAll, encodeAll, fitsAll}
 
 -- "One version byte 01"
-pub data Version : Type 0 where
-  v01 : Version
+abbrev pub v01 : Version
+v01 = V01
 
 -- "Text is one length byte and the bytes"
 abbrev pub textWidth : Version → ℕ
-textWidth v01 = 1
+textWidth V01 = 1
 
 -- "a text above 255 bytes"
 abbrev pub textMost : Version → ℕ
-textMost v01 = 255
+textMost V01 = 255
 
 -- "Volume, token and relay numbers are u32; slot, K, M u8; account and hash 32 bytes; sizes, coins and blocks u64."
 abbrev pub formatOf : Version → Field → Format
@@ -133,12 +135,16 @@ kindNumber Look = 0x0e
 kindNumber Register = 0x0f
 kindNumber Heartbeat = 0x10
 
--- the kinds that a journal of the version has
-abbrev pub kinds : Version → List Kind
-kinds v01 =
+-- the kinds of 01
+abbrev pub allKinds : List Kind
+allKinds =
     Advance ∷ Create ∷ Deposit ∷ Delete ∷ Undelete ∷ Grant ∷ Attenuate ∷ Revoke ∷ Open ∷ Stage ∷ Commit ∷ Abandon ∷ Remove ∷ Look ∷ Register
     ∷ Heartbeat
     ∷ []
+
+-- the kinds that a journal of the version has
+abbrev pub kinds : Version → List Kind
+kinds V01 = allKinds
 
 -- the kind of a number among some kinds
 unfoldable pub kindAmong : ℕ → List Kind → Option Kind

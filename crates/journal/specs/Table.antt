@@ -24,9 +24,9 @@ abbrev pub namedBy : Option Kind → Named
 namedBy none = a.Unknown
 namedBy (some k) = a.Kind k
 
--- the kind of a number
-unfoldable pub named : ℕ → Named
-named n = namedBy (kindNumbered v01 n)
+-- the kind of a number, in a version
+unfoldable pub named : Version → ℕ → Named
+named v n = namedBy (kindNumbered v n)
 
 -- the fields, and the number of each: its place among them
 abbrev pub allFields : List Field
@@ -68,7 +68,7 @@ abbrev pub stepTo : (v : Version) (f : Field) → ℕ → Record → Decoded (Va
 stepTo v f at r nothing = Refused
 stepTo v f at r (found x rest) = Next (place v f at x r) (at + length (encode (formatOf v f) x))
 
--- how many bytes a field that is a number has; 0 for the others
+-- how many bytes a field that is a number has, in every version; 0 for the others
 abbrev pub widthIn : Format → ℕ
 widthIn (number w) = w
 widthIn (text w most) = 0

@@ -10,11 +10,11 @@ use Rattle.rules.specs.Calls.{Call}
 use Rattle.journal.specs.declared.Kind.{Kind}
 use Rattle.journal.specs.declared.Fields.{Fields}
 use Rattle.journal.specs.Fields.{found}
-use Rattle.journal.specs.Records.{Version, v01, fieldsOf, kindNumbered, callOf, kindOf, valuesOf, parse, callParsed, readRecord, recordBytes, writeRecord, writable}
+use Rattle.journal.specs.Records.{Version, fieldsOf, kindNumbered, callOf, kindOf, valuesOf, parse, callParsed, readRecord, recordBytes, writeRecord, writable}
 use Rattle.journal.specs.RecordLaws.{call-of-values, parse-record, parse-given, call-parsed}
 use Rattle.journal.specs.Places.{readAt, callRead}
 use Rattle.journal.specs.PlaceLaws.{reading-is-call}
-use Rattle.journal.specs.Journal.{framed, records, contents, startFault, nextIn, afterStart, afterNext}
+use Rattle.journal.specs.Journal.{framed, records, contents, startOf, nextIn, afterStart, afterNext}
 use Rattle.journal.specs.JournalLaws.{start-contents, next-contents}
 use Rattle.journal.specs.Writes.{valuesIn, givableAll, inFrame, kindIn, recordIn}
 use Rattle.journal.specs.WriteLaws.{Sized, frame-found, record-read}
@@ -46,36 +46,36 @@ one-record v l m c hl hm p q = sym (read-writes-back v l c hl p) ∙ read-writes
 pub reader-gives-the-call : (v : Version) (l : List ℕ) → areBytes l ≡ true → callRead v (readAt v l) l ≡ readRecord v l
 reader-gives-the-call v l h = reading-is-call v l h
 
--- what a whole journal holds, taken apart as the code does: by the fault at its start, then by what stands next, record after record
-pub start-gives-the-contents : (l : List ℕ) → contents l ≡ afterStart (startFault l) l
+-- what a whole journal holds, taken apart as the code does: by its start, then by what stands next, record after record
+pub start-gives-the-contents : (l : List ℕ) → contents l ≡ afterStart (startOf l) l
 start-gives-the-contents = start-contents
 
 pub next-gives-the-contents : (v : Version) (l : List ℕ) → areBytes l ≡ true → records v l ≡ afterNext v l (nextIn v l)
 next-gives-the-contents = next-contents
 
 -- a record that the writer is given, written: the frame gives its bytes back, whatever follows, and they read as its call
-pub record ReadsBack (d : Fields) (t b rest : List ℕ) : Type 0 where
+pub record ReadsBack (v : Version) (d : Fields) (t b rest : List ℕ) : Type 0 where
   pub kind : Kind
-  pub numbered : kindNumbered v01 (d .kind) ≡ some kind
-  pub framed-again : framed (b ++ rest) ≡ found (recordBytes v01 kind (valuesIn v01 (fieldsOf v01 kind) d t)) rest
-  pub read-again : readRecord v01 (recordBytes v01 kind (valuesIn v01 (fieldsOf v01 kind) d t)) ≡ some (callOf v01 kind (valuesIn v01 (fieldsOf v01 kind) d t))
+  pub numbered : kindNumbered v (d .kind) ≡ some kind
+  pub framed-again : framed (b ++ rest) ≡ found (recordBytes v kind (valuesIn v (fieldsOf v kind) d t)) rest
+  pub read-again : readRecord v (recordBytes v kind (valuesIn v (fieldsOf v kind) d t)) ≡ some (callOf v kind (valuesIn v (fieldsOf v kind) d t))
 
-pub writer-reads-back : (d : Fields) (t b rest : List ℕ) → Sized d → recordIn v01 d t ≡ some b → ReadsBack d t b rest
+pub writer-reads-back : (v : Version) (d : Fields) (t b rest : List ℕ) → Sized d → recordIn v d t ≡ some b → ReadsBack v d t b rest
 unfolding recordIn
-writer-reads-back d t b rest s e = by-kind (kindNumbered v01 (d .kind)) refl e
+writer-reads-back v d t b rest s e = by-kind (kindNumbered v (d .kind)) refl e
   where
-    given : (k : Kind) (g : Bool) → kindNumbered v01 (d .kind) ≡ some k → givableAll v01 (fieldsOf v01 k) d t ≡ g
-        → cond g (some (inFrame (recordBytes v01 k (valuesIn v01 (fieldsOf v01 k) d t)))) none ≡ some b → ReadsBack d t b rest
+    given : (k : Kind) (g : Bool) → kindNumbered v (d .kind) ≡ some k → givableAll v (fieldsOf v k) d t ≡ g
+        → cond g (some (inFrame (recordBytes v k (valuesIn v (fieldsOf v k) d t)))) none ≡ some b → ReadsBack v d t b rest
     given k true n g e =
-        let eb : inFrame (recordBytes v01 k (valuesIn v01 (fieldsOf v01 k) d t)) ≡ b = cc in
+        let eb : inFrame (recordBytes v k (valuesIn v (fieldsOf v k) d t)) ≡ b = cc in
         record {
           kind = k;
           numbered = n;
-          framed-again = rw (← eb) (frame-found k d t rest s g);
-          read-again = record-read k d t s g;
+          framed-again = rw (← eb) (frame-found v k d t rest s g);
+          read-again = record-read v k d t s g;
         }
     given k false n g e = let z : _≡_ {A = ℕ} 0 1 = cc in absurd (omega arith)
 
-    by-kind : (o : Option Kind) → kindNumbered v01 (d .kind) ≡ o → kindIn v01 o d t ≡ some b → ReadsBack d t b rest
+    by-kind : (o : Option Kind) → kindNumbered v (d .kind) ≡ o → kindIn v o d t ≡ some b → ReadsBack v d t b rest
     by-kind none n e = let z : _≡_ {A = ℕ} 0 1 = cc in absurd (omega arith)
-    by-kind (some k) n e = given k (givableAll v01 (fieldsOf v01 k) d t) n refl e
+    by-kind (some k) n e = given k (givableAll v (fieldsOf v k) d t) n refl e

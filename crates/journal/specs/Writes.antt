@@ -20,7 +20,7 @@ use Rattle.journal.specs.declared.Size.{Size}
 use Rattle.journal.specs.declared.Size.the-variants.{Bytes, Bad}
 use Rattle.journal.specs.Numbers.{bytesOf}
 use Rattle.journal.specs.Fields.{text, ValueOf, ValuesOf, encode}
-use Rattle.journal.specs.Records.{Version, textMost, formatOf, formsOf, fieldsOf, kindNumbered, Values, callOf, recordBytes}
+use Rattle.journal.specs.Records.{Version, textWidth, textMost, formatOf, formsOf, fieldsOf, kindNumbered, Values, callOf, recordBytes}
 
 -- the mode of a number of at most 2
 abbrev pub modeIn : ℕ → Mode
@@ -90,8 +90,8 @@ bufferOf (some b) buf = cond (leb (length b) (length buf)) (over 0 b buf) buf
 
 -- ---- as the code writes a record, field by field
 
-abbrev pub textBytes : List ℕ → List ℕ
-textBytes t = bytesOf 1 (length t) ++ t
+abbrev pub textBytes : Version → List ℕ → List ℕ
+textBytes v t = bytesOf (textWidth v) (length t) ++ t
 
 -- the bytes of one field, and of a list of them
 unfoldable pub fieldBytes : Version → Field → Fields → List ℕ → List ℕ
@@ -109,12 +109,12 @@ fieldSize v f d t = cond (givable v f d t) (Bytes (length (fieldBytes v f d t)))
 unfoldable pub fieldsSize : Version → ℕ → List Field → Fields → List ℕ → Size
 fieldsSize v n fs d t = cond (givableAll v fs d t) (Bytes (n + length (fieldsBytes v fs d t))) Bad
 
--- no field has more than 256 bytes
+-- no field has more than 1,026 bytes
 abbrev pub small : Size → Type 0
-small (Bytes k) = k ≤ 256
+small (Bytes k) = k ≤ 1026
 small Bad = Unit {0}
 
--- no record's fields have more than 1,792 bytes
+-- no record's fields have more than 7,182 bytes
 abbrev pub sized : Size → Type 0
-sized (Bytes n) = n ≤ 1792
+sized (Bytes n) = n ≤ 7182
 sized Bad = Unit {0}

@@ -12,12 +12,12 @@ mod table;
 
 use amount::Cap;
 pub use frame::next_record;
-pub use frame::start_fault;
+pub use frame::start_of;
 pub use parts::account_of;
 pub use parts::hash_of;
 pub use parts::text_of;
-pub use reader::TEXT_MOST;
-pub use reader::TEXT_WIDTH;
+pub use reader::text_most;
+pub use reader::text_width;
 pub use records::read_record;
 use rules::Mode;
 pub use table::field_count;
@@ -31,6 +31,17 @@ pub const RECORD: u32 = 27;
 pub const TOO_LARGE: u32 = 24;
 
 pub const VERSION: u32 = 28;
+
+// The versions of a journal. They say which kinds of records it has, and how the length of a text is written.
+pub enum Version {
+    V01,
+}
+
+// What a journal's first bytes say: the version of the records after them, or the number that it stops with.
+pub enum Start {
+    Records(Version),
+    Fault(u32),
+}
 
 // The kinds of calls, 01 to 10 in the journal, in that order.
 pub enum Kind {

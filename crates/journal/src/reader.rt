@@ -3,21 +3,35 @@ ghost use mathlib.Core.Path.{_≡_};
 ghost use Prim.Native.Nat.{_≤_, _<_, _^_};
 ghost use lib.ListN.{length, drop};
 ghost use Rattle.journal.specs.Fields.{decode, decodeNumber};
-ghost use Rattle.journal.specs.Records.{v01, formatOf};
+ghost use Rattle.journal.specs.Records.{v01, textWidth, textMost, formatOf};
 ghost use Rattle.journal.specs.Places.{place};
 ghost use Rattle.journal.specs.Table.{widthOf, placeNumber, stepNumber, stepTo};
 use super::Field;
 use super::Number;
 use super::Record;
 use super::Step;
+use super::Version;
 use super::numbers::number_at;
 use amount::Cap;
 use rules::Mode;
 
-// A text has at most so many bytes, after a length of so many.
-pub const TEXT_MOST: u64 = 255;
+// The most bytes that a text has.
+pub fn text_most(v: Version) -> u64
+    ensures { λ r. ⌜ (r ≡ textMost v) × (r ≤ 1024) ⌝ }
+{
+    match v {
+        Version::V01 => 255,
+    }
+}
 
-pub const TEXT_WIDTH: usize = 1;
+// How many bytes its length has.
+pub fn text_width(v: Version) -> usize
+    ensures { λ r. ⌜ (r ≡ textWidth v) × (r ≤ 2) ⌝ }
+{
+    match v {
+        Version::V01 => 1,
+    }
+}
 
 // How many bytes a field has that is a number, and 0 for the others.
 pub(crate) fn width(f: Field) -> usize
@@ -145,17 +159,18 @@ fn read_hash(body: &[u8], at: usize, r: Record) -> Step
     Step::Next(q, at + 32)
 }
 
-fn read_text(body: &[u8], at: usize, r: Record) -> Step
+fn read_text(v: Version, body: &[u8], at: usize, r: Record) -> Step
     requires { ⌜ at ≤ length (now body) ⌝ }
-    ensures { λ s. ⌜ s ≡ stepTo v01 Field.Text at r (decode (formatOf v01 Field.Text) (drop at (now (body .entry)))) ⌝ }
+    ensures { λ s. ⌜ s ≡ stepTo v Field.Text at r (decode (formatOf v Field.Text) (drop at (now (body .entry)))) ⌝ }
 {
-    let Number::Value(n) = number_at(body, at, TEXT_WIDTH) else {
+    let w = text_width(v);
+    let Number::Value(n) = number_at(body, at, w) else {
         return Step::Refused;
     };
-    if TEXT_MOST < n {
+    if text_most(v) < n {
         return Step::Refused;
     }
-    let start = at + TEXT_WIDTH;
+    let start = at + w;
     let len = n as usize;
     if body.len() - start < len {
         return Step::Refused;
@@ -206,9 +221,9 @@ fn read_cap(body: &[u8], at: usize, r: Record) -> Step
 }
 
 // One field, at its place in the record's bytes.
-pub(crate) fn read_field(body: &[u8], at: usize, f: Field, r: Record) -> Step
+pub(crate) fn read_field(v: Version, body: &[u8], at: usize, f: Field, r: Record) -> Step
     requires { ⌜ at ≤ length (now body) ⌝ }
-    ensures { λ s. ⌜ s ≡ stepTo v01 f at r (decode (formatOf v01 f) (drop at (now (body .entry)))) ⌝ }
+    ensures { λ s. ⌜ s ≡ stepTo v f at r (decode (formatOf v f) (drop at (now (body .entry)))) ⌝ }
 {
     match f {
         Field::Account => read_account(body, at, r),
@@ -216,7 +231,7 @@ pub(crate) fn read_field(body: &[u8], at: usize, f: Field, r: Record) -> Step
         Field::Slot => read_number(body, at, f, r),
         Field::K => read_number(body, at, f, r),
         Field::M => read_number(body, at, f, r),
-        Field::Text => read_text(body, at, r),
+        Field::Text => read_text(v, body, at, r),
         Field::Amount => read_number(body, at, f, r),
         Field::Hash => read_hash(body, at, r),
         Field::Mode => read_mode(body, at, r),

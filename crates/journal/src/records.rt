@@ -2,7 +2,7 @@
 ghost use mathlib.Core.Path.{_≡_};
 ghost use Prim.Native.Nat.{_≤_};
 ghost use lib.ListN.{length};
-ghost use Rattle.journal.specs.Records.{v01, fieldsOf};
+ghost use Rattle.journal.specs.Records.{fieldsOf};
 ghost use Rattle.journal.specs.Places.{blank, readAt};
 ghost use Rattle.journal.specs.Table.{readOn};
 use super::Kind;
@@ -11,6 +11,7 @@ use super::RECORD;
 use super::Reading;
 use super::Record;
 use super::Step;
+use super::Version;
 use super::reader::read_field;
 use super::table::field_count;
 use super::table::fields_of;
@@ -40,18 +41,18 @@ fn empty(kind: Kind) -> Record
 }
 
 // The kind's fields, one after another from byte 1 on, to the last byte.
-fn read_fields(body: &[u8], kind: Kind) -> Reading
+fn read_fields(v: Version, body: &[u8], kind: Kind) -> Reading
     requires { ⌜ 1 ≤ length (now body) ⌝ }
-    ensures { λ r. ⌜ r ≡ readOn v01 (fieldsOf v01 kind) 1 (blank kind) (now (body .entry)) ⌝ }
+    ensures { λ r. ⌜ r ≡ readOn v (fieldsOf v kind) 1 (blank kind) (now (body .entry)) ⌝ }
 {
-    let fields = fields_of(kind);
-    let count = field_count(kind);
+    let fields = fields_of(v, kind);
+    let count = field_count(v, kind);
     let mut r = empty(kind);
     let mut at: usize = 1;
     let mut i: usize = 0;
     while i < count {
         let f = fields[i];
-        let Step::Next(q, next) = read_field(body, at, f, r) else {
+        let Step::Next(q, next) = read_field(v, body, at, f, r) else {
             return Reading::Refused(RECORD);
         };
         r = q;
@@ -65,14 +66,14 @@ fn read_fields(body: &[u8], kind: Kind) -> Reading
 }
 
 // A record's bytes, without its length: the record, or 27.
-pub fn read_record(body: &[u8]) -> Reading
-    ensures { λ r. ⌜ r ≡ readAt v01 (now (body .entry)) ⌝ }
+pub fn read_record(v: Version, body: &[u8]) -> Reading
+    ensures { λ r. ⌜ r ≡ readAt v (now (body .entry)) ⌝ }
 {
     if body.len() < 1 {
         return Reading::Refused(RECORD);
     }
-    let Named::Kind(kind) = kind_named(body[0]) else {
+    let Named::Kind(kind) = kind_named(v, body[0]) else {
         return Reading::Refused(RECORD);
     };
-    read_fields(body, kind)
+    read_fields(v, body, kind)
 }

@@ -3,12 +3,13 @@ ghost use mathlib.Core.Path.{_≡_};
 ghost use mathlib.Core.List.{map};
 ghost use Prim.Native.Nat.{_<_, _≤_};
 ghost use lib.ListN.{length, getD};
-ghost use Rattle.journal.specs.Records.{v01, fieldsOf};
+ghost use Rattle.journal.specs.Records.{fieldsOf};
 ghost use Rattle.journal.specs.Table.{allFields, fieldNumber, named, padded};
 use super::Field;
 use super::Field as F;
 use super::Kind;
 use super::Named;
+use super::Version;
 
 // The kinds, in the order of their numbers.
 const KINDS: [Kind; 16] = [
@@ -30,9 +31,9 @@ const KINDS: [Kind; 16] = [
     Kind::Heartbeat,
 ];
 
-// The kind of a number, 01 to 10.
-pub fn kind_named(n: u8) -> Named
-    ensures { λ r. ⌜ r ≡ named n ⌝ }
+// The kind of a number, 01 to 10 in every version.
+pub fn kind_named(v: Version, n: u8) -> Named
+    ensures { λ r. ⌜ r ≡ named v n ⌝ }
 {
     if n < 1 {
         return Named::Unknown;
@@ -44,9 +45,9 @@ pub fn kind_named(n: u8) -> Named
     Named::Kind(KINDS[i])
 }
 
-// How many fields a kind has.
-pub fn field_count(kind: Kind) -> usize
-    ensures { λ r. ⌜ (r ≡ length (fieldsOf v01 kind)) × (r ≤ 7) ⌝ }
+// How many fields a kind has, which is the same in every version.
+pub fn field_count(v: Version, kind: Kind) -> usize
+    ensures { λ r. ⌜ (r ≡ length (fieldsOf v kind)) × (r ≤ 7) ⌝ }
 {
     match kind {
         Kind::Advance => 1,
@@ -120,8 +121,8 @@ fn field_numbered(i: usize) -> Field
 }
 
 // Each kind's fields in order, by their numbers, filled up with that of `None`.
-fn field_numbers(kind: Kind) -> [usize; 7]
-    ensures { λ r. ⌜ r ≡ map fieldNumber (padded (fieldsOf v01 kind)) ⌝ }
+fn field_numbers(v: Version, kind: Kind) -> [usize; 7]
+    ensures { λ r. ⌜ r ≡ map fieldNumber (padded (fieldsOf v kind)) ⌝ }
 {
     match kind {
         Kind::Advance => [AMOUNT, NONE, NONE, NONE, NONE, NONE, NONE],
@@ -144,10 +145,10 @@ fn field_numbers(kind: Kind) -> [usize; 7]
 }
 
 // Each kind's fields in order, filled up with `None`.
-pub fn fields_of(kind: Kind) -> [Field; 7]
-    ensures { λ r. ⌜ r ≡ padded (fieldsOf v01 kind) ⌝ }
+pub fn fields_of(v: Version, kind: Kind) -> [Field; 7]
+    ensures { λ r. ⌜ r ≡ padded (fieldsOf v kind) ⌝ }
 {
-    let n = field_numbers(kind);
+    let n = field_numbers(v, kind);
     [
         field_numbered(n[0]),
         field_numbered(n[1]),

@@ -16,7 +16,7 @@ use Rattle.journal.specs.declared.Record.{Record}
 use Rattle.journal.specs.declared.Next.{Next}
 use Rattle.journal.specs.declared.Next.the-variants.{End, Whole, Stop}
 use Rattle.journal.specs.FieldLaws.{bytes-known}
-use Rattle.journal.specs.Records.{v01}
+use Rattle.journal.specs.declared.Version.{Version}
 use Rattle.journal.specs.Places.{blank}
 use Rattle.journal.specs.Journal.{nextIn}
 use Rattle.journal_calls.specs.declared.Group.{Group}
@@ -42,27 +42,27 @@ pub at-place : (g : Group) (p : ℕ) (r : Record) → r ≡ blank kind.Advance
 at-place g p r e = rw e
 
 -- past the last byte stands the end
-pub past-end : (l : List ℕ) (p : ℕ) (x : Item) → length l ≤ p → x ≡ record { group = group.End; fields = blank kind.Advance; after = p } → StandsAt l p x
+pub past-end : (v : Version) (l : List ℕ) (p : ℕ) (x : Item) → length l ≤ p → x ≡ record { group = group.End; fields = blank kind.Advance; after = p } → StandsAt v l p x
 unfolding nextIn
-past-end l p x h e = record { same = rw (e, drop-of-length-le l {i = p} h) }
+past-end v l p x h e = record { same = rw (e, drop-of-length-le l {i = p} h) }
 
 -- next is what stands next in the bytes that the code has from p on
-module _ (l : List ℕ) (p : ℕ) (next : Next) (e : next ≡ nextIn v01 (take (length l - p) (drop p l))) where
-  here : nextIn v01 (drop p l) ≡ next
-  here = sym (e ∙ ap (nextIn v01) (take-all (length l - p) (drop p l) (omega (arith, length-drop p l))))
+module _ (v : Version) (l : List ℕ) (p : ℕ) (next : Next) (e : next ≡ nextIn v (take (length l - p) (drop p l))) where
+  here : nextIn v (drop p l) ≡ next
+  here = sym (e ∙ ap (nextIn v) (take-all (length l - p) (drop p l) (omega (arith, length-drop p l))))
 
-  pub end-item : (x : Item) → next ≡ End → x ≡ record { group = group.End; fields = blank kind.Advance; after = p } → StandsAt l p x
+  pub end-item : (x : Item) → next ≡ End → x ≡ record { group = group.End; fields = blank kind.Advance; after = p } → StandsAt v l p x
   end-item x w f = record { same = rw (here, w) f }
 
-  pub stop-item : (x : Item) (number : ℕ) → next ≡ Stop number → x ≡ record { group = group.Stop number; fields = blank kind.Advance; after = p } → StandsAt l p x
+  pub stop-item : (x : Item) (number : ℕ) → next ≡ Stop number → x ≡ record { group = group.Stop number; fields = blank kind.Advance; after = p } → StandsAt v l p x
   stop-item x number w f = record { same = rw (here, w) f }
 
   module _ (r : Record) (n : ℕ) (w : next ≡ Whole r n) where
-    pub whole-item : (g : Group) → g ≡ groupOf (r .kind) (r .slot) → StandsAt l p (record { group = g; fields = r; after = p + n })
+    pub whole-item : (g : Group) → g ≡ groupOf (r .kind) (r .slot) → StandsAt v l p (record { group = g; fields = r; after = p + n })
     whole-item g f = record { same = rw (here, w, f) }
 
     pub whole-fits : ((i : ℕ) → Fits w8 (getD l i 0)) → p < length l → length l < 2 ^ 64 → Fits w64 (p + n)
-    whole-fits b k m = record { fits = omega (arith, record-sized l (bytes-known l (λ i. b i .fits)) p r n (here ∙ w) .there, length-drop p l) }
+    whole-fits b k m = record { fits = omega (arith, record-sized v l (bytes-known l (λ i. b i .fits)) p r n (here ∙ w) .there, length-drop p l) }
 
 pub ruleset items = (past-end, end-item, stop-item, whole-item, whole-fits, needs)
 

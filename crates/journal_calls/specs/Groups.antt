@@ -13,6 +13,7 @@ use Rattle.rules.specs.Calls.{Ask, advance, create, deposit, delete, undelete, 
 use Rattle.journal.specs.declared.Kind.{Kind}
 use Rattle.journal.specs.declared.Kind.the-variants as kind
 use Rattle.journal.specs.declared.Record.{Record}
+use Rattle.journal.specs.declared.Version.{Version}
 use Rattle.journal.specs.Records.{v01}
 use Rattle.journal.specs.declared.Next.{Next}
 use Rattle.journal.specs.declared.Next.the-variants.{End, Whole, Stop}
@@ -90,7 +91,8 @@ slotWork slot.Open r l = opens (record { 0 = r .no })
 slotWork slot.Stage r l = stages (textAt r l) (r .amount) (record { 0 = hashAt r l })
 slotWork slot.Abandon r l = abandons
 
--- the call of a record of the group; at the end and at a fault it stands for nothing, and is not made
+-- the call of a record of the group, whatever version it was read in (`call-alike` in the journal's laws); at the end and at a fault it stands for nothing,
+-- and is not made
 abbrev pub callIn : Group → Record → List ℕ → Call
 callIn group.End r l = callAt v01 r l
 callIn (group.Stop number) r l = callAt v01 r l
@@ -128,9 +130,9 @@ itemOf p End = record { group = group.End; fields = blank kind.Advance; after = 
 itemOf p (Stop number) = record { group = group.Stop number; fields = blank kind.Advance; after = p }
 itemOf p (Whole r n) = record { group = groupOf (r .kind) (r .slot); fields = r; after = p + n }
 
--- x is what stands at the place p of the records l
-pub record StandsAt (l : List ℕ) (p : ℕ) (x : Item) : Type 0 where
-  pub same : x ≡ itemOf p (nextIn v01 (drop p l))
+-- x is what stands at the place p of the records l, which are of the version v
+pub record StandsAt (v : Version) (l : List ℕ) (p : ℕ) (x : Item) : Type 0 where
+  pub same : x ≡ itemOf p (nextIn v (drop p l))
 
 -- b has the bytes of the record there, which ends before `after`: those after its length
 pub record BodyAt (l : List ℕ) (p after : ℕ) (b : List ℕ) : Type 0 where

@@ -18,8 +18,10 @@ use Rattle.journal.specs.declared.Kind.the-variants as kind
 use Rattle.journal.specs.declared.Record.{Record}
 use Rattle.journal.specs.declared.Next.{Next}
 use Rattle.journal.specs.declared.Next.the-variants.{End, Whole, Stop}
+use Rattle.journal.specs.declared.Version.{Version}
 use Rattle.journal.specs.Records.{v01}
 use Rattle.journal.specs.Places.{callAt}
+use Rattle.journal.specs.PlaceLaws.{call-alike}
 use Rattle.journal.specs.Journal.{stopped, ended, after, records, nextIn}
 use Rattle.journal_calls.specs.declared.SlotCall.the-variants as slot
 use Rattle.journal_calls.specs.declared.Group.{Group}
@@ -169,53 +171,53 @@ group-record kind.Heartbeat j = refl
 -- ---- what stands at a place: x stands at p of l
 
 -- x is a record: it has 3 bytes or more with its length, they are there, and the journal goes on after it
-pub record RecordAt (l : List ℕ) (p : ℕ) (x : Item) : Type 0 where
+pub record RecordAt (v : Version) (l : List ℕ) (p : ℕ) (x : Item) : Type 0 where
   pub least : p + 3 ≤ x .after
   pub most : x .after ≤ length l
-  pub left : records v01 (drop p l) ≡ after (callAt v01 (x .fields) (bodyAt p (x .after) l)) (records v01 (drop (x .after) l))
+  pub left : records v (drop p l) ≡ after (callAt v01 (x .fields) (bodyAt p (x .after) l)) (records v (drop (x .after) l))
 
 -- it ends in the journal, whatever it is
 pub record Within (l : List ℕ) (p end : ℕ) : Type 0 where
   pub least : p ≤ end
   pub most : end ≤ length l
 
-module _ (l : List ℕ) (h : areBytes l ≡ true) (p : ℕ) where
-  whole-most : p ≤ length l → (r : Record) (n : ℕ) → nextIn v01 (drop p l) ≡ Whole r n → p + n ≤ length l
-  whole-most k r n f = omega (arith, record-sized l h p r n f .there, length-drop p l)
+module _ (v : Version) (l : List ℕ) (h : areBytes l ≡ true) (p : ℕ) where
+  whole-most : p ≤ length l → (r : Record) (n : ℕ) → nextIn v (drop p l) ≡ Whole r n → p + n ≤ length l
+  whole-most k r n f = omega (arith, record-sized v l h p r n f .there, length-drop p l)
 
-  within-by : p ≤ length l → (next : Next) → nextIn v01 (drop p l) ≡ next → Within l p (itemOf p next .after)
+  within-by : p ≤ length l → (next : Next) → nextIn v (drop p l) ≡ next → Within l p (itemOf p next .after)
   within-by k End f = record { least = omega arith; most = k }
   within-by k (Stop number) f = record { least = omega arith; most = k }
   within-by k (Whole r n) f = record { least = omega arith; most = whole-most k r n f }
 
-  end-by : (next : Next) → nextIn v01 (drop p l) ≡ next → itemOf p next .group ≡ group.End → records v01 (drop p l) ≡ ended
-  end-by End f g = left-at-end l h p f
+  end-by : (next : Next) → nextIn v (drop p l) ≡ next → itemOf p next .group ≡ group.End → records v (drop p l) ≡ ended
+  end-by End f g = left-at-end v l h p f
   end-by (Stop number) f g = absurd (let z : _≡_ {A = ℕ} 0 1 = cc in omega arith)
   end-by (Whole r k) f g = absurd (false≢true (rw g at (group-record (r .kind) (r .slot))))
 
-  stop-by : (number : ℕ) (next : Next) → nextIn v01 (drop p l) ≡ next → itemOf p next .group ≡ group.Stop number → records v01 (drop p l) ≡ stopped number
+  stop-by : (number : ℕ) (next : Next) → nextIn v (drop p l) ≡ next → itemOf p next .group ≡ group.Stop number → records v (drop p l) ≡ stopped number
   stop-by number End f g = absurd (let z : _≡_ {A = ℕ} 0 1 = cc in omega arith)
-  stop-by number (Stop m) f g = let e : m ≡ number = cc in left-at-stop l h p number (f ∙ ap Stop e)
+  stop-by number (Stop m) f g = let e : m ≡ number = cc in left-at-stop v l h p number (f ∙ ap Stop e)
   stop-by number (Whole r k) f g = absurd (false≢true (rw g at (group-record (r .kind) (r .slot))))
 
-  record-by : p ≤ length l → (next : Next) → nextIn v01 (drop p l) ≡ next → isRecord (itemOf p next .group) ≡ true → RecordAt l p (itemOf p next)
+  record-by : p ≤ length l → (next : Next) → nextIn v (drop p l) ≡ next → isRecord (itemOf p next .group) ≡ true → RecordAt v l p (itemOf p next)
   record-by k End f g = absurd (false≢true g)
   record-by k (Stop number) f g = absurd (false≢true g)
   record-by k (Whole r n) f g =
-      record { least = omega (arith, record-sized l h p r n f .least); most = whole-most k r n f; left = left-at-record l h p r n f }
+      record { least = omega (arith, record-sized v l h p r n f .least); most = whole-most k r n f; left = rw (call-alike v r (bodyAt p (p + n) l)) at (left-at-record v l h p r n f) }
 
-  module _ (x : Item) (e : x ≡ itemOf p (nextIn v01 (drop p l))) where
+  module _ (x : Item) (e : x ≡ itemOf p (nextIn v (drop p l))) where
     pub item-within : p ≤ length l → Within l p (x .after)
-    item-within k = rw e (within-by k (nextIn v01 (drop p l)) refl)
+    item-within k = rw e (within-by k (nextIn v (drop p l)) refl)
 
-    pub item-end : x .group ≡ group.End → records v01 (drop p l) ≡ ended
-    item-end g = end-by (nextIn v01 (drop p l)) refl (rw e at g)
+    pub item-end : x .group ≡ group.End → records v (drop p l) ≡ ended
+    item-end g = end-by (nextIn v (drop p l)) refl (rw e at g)
 
-    pub item-stop : (number : ℕ) → x .group ≡ group.Stop number → records v01 (drop p l) ≡ stopped number
-    item-stop number g = stop-by number (nextIn v01 (drop p l)) refl (rw e at g)
+    pub item-stop : (number : ℕ) → x .group ≡ group.Stop number → records v (drop p l) ≡ stopped number
+    item-stop number g = stop-by number (nextIn v (drop p l)) refl (rw e at g)
 
-    pub item-record : p ≤ length l → isRecord (x .group) ≡ true → RecordAt l p x
-    item-record k g = rw e (record-by k (nextIn v01 (drop p l)) refl (rw e at g))
+    pub item-record : p ≤ length l → isRecord (x .group) ≡ true → RecordAt v l p x
+    item-record k g = rw e (record-by k (nextIn v (drop p l)) refl (rw e at g))
 
 -- the group of a record is that of its fields
 named-by : (p : ℕ) (next : Next) → isRecord (itemOf p next .group) ≡ true → itemOf p next .group ≡ groupOf (itemOf p next .fields .kind) (itemOf p next .fields .slot)
@@ -223,6 +225,6 @@ named-by p End g = absurd (false≢true g)
 named-by p (Stop number) g = absurd (false≢true g)
 named-by p (Whole r n) g = refl
 
-pub item-named : (l : List ℕ) (p : ℕ) (x : Item) → x ≡ itemOf p (nextIn v01 (drop p l)) → isRecord (x .group) ≡ true
+pub item-named : (v : Version) (l : List ℕ) (p : ℕ) (x : Item) → x ≡ itemOf p (nextIn v (drop p l)) → isRecord (x .group) ≡ true
     → x .group ≡ groupOf (x .fields .kind) (x .fields .slot)
-item-named l p x e g = rw e (named-by p (nextIn v01 (drop p l)) (rw e at g))
+item-named v l p x e g = rw e (named-by p (nextIn v (drop p l)) (rw e at g))

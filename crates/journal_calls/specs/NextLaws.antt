@@ -16,7 +16,8 @@ use Rattle.journal.specs.Numbers.{bytesOf}
 use Rattle.journal.specs.NumberLaws.{length-bytesOf}
 use Rattle.journal.specs.Fields.{Decoded, nothing, found, text, encode}
 use Rattle.journal.specs.FieldLaws.{bytes-drop, decode-taken}
-use Rattle.journal.specs.Records.{v01, parse}
+use Rattle.journal.specs.declared.Version.{Version}
+use Rattle.journal.specs.Records.{parse}
 use Rattle.journal.specs.Places.{readAt, callAt}
 use Rattle.journal.specs.Journal.{stopped, ended, after, framed, records, onReading, onBody, nextIn, afterNext}
 use Rattle.journal.specs.Theorems.{next-gives-the-contents}
@@ -40,52 +41,52 @@ pub record Sized (l : List ℕ) (n : ℕ) : Type 0 where
   pub least : 3 ≤ n
   pub there : n ≤ length l
 
-some-read : (body : List ℕ) (r : Record) → readAt v01 body ≡ Fits r → 1 ≤ length body
+some-read : (v : Version) (body : List ℕ) (r : Record) → readAt v body ≡ Fits r → 1 ≤ length body
 unfolding readAt parse
-some-read [] r e = absurd (let z : _≡_ {A = ℕ} 0 1 = cc in omega arith)
-some-read (b ∷ l) r e = omega arith
+some-read v [] r e = absurd (let z : _≡_ {A = ℕ} 0 1 = cc in omega arith)
+some-read v (b ∷ l) r e = omega arith
 
-whole-read : (l body rest : List ℕ) → areBytes l ≡ true → framed l ≡ found body rest → (o : Reading) → readAt v01 body ≡ o → (r : Record) (n : ℕ)
+whole-read : (v : Version) (l body rest : List ℕ) → areBytes l ≡ true → framed l ≡ found body rest → (o : Reading) → readAt v body ≡ o → (r : Record) (n : ℕ)
     → onReading body o ≡ Whole r n → Sized l n
-whole-read l body rest h f (Refused k) g r n e = absurd (let z : _≡_ {A = ℕ} 0 1 = cc in omega arith)
-whole-read l body rest h f (Fits q) g r n e =
+whole-read v l body rest h f (Refused k) g r n e = absurd (let z : _≡_ {A = ℕ} 0 1 = cc in omega arith)
+whole-read v l body rest h f (Fits q) g r n e =
     let s : 2 + length body ≡ n = cc in
     let a = apart l body rest h f in
-    let b = some-read body q g in
+    let b = some-read v body q g in
     record { least = omega arith; there = omega (arith, a .size) }
 
-pub whole-sized : (l : List ℕ) → areBytes l ≡ true → (r : Record) (n : ℕ) → nextIn v01 l ≡ Whole r n → Sized l n
+pub whole-sized : (v : Version) (l : List ℕ) → areBytes l ≡ true → (r : Record) (n : ℕ) → nextIn v l ≡ Whole r n → Sized l n
 unfolding nextIn
-whole-sized [] h r n e = absurd (let z : _≡_ {A = ℕ} 0 1 = cc in omega arith)
-whole-sized (b ∷ l) h r n e = by (framed (b ∷ l)) refl e
+whole-sized v [] h r n e = absurd (let z : _≡_ {A = ℕ} 0 1 = cc in omega arith)
+whole-sized v (b ∷ l) h r n e = by (framed (b ∷ l)) refl e
   where
-    by : (d : Decoded (List ℕ)) → framed (b ∷ l) ≡ d → onBody v01 d ≡ Whole r n → Sized (b ∷ l) n
+    by : (d : Decoded (List ℕ)) → framed (b ∷ l) ≡ d → onBody v d ≡ Whole r n → Sized (b ∷ l) n
     by nothing f e = absurd (let z : _≡_ {A = ℕ} 0 1 = cc in omega arith)
-    by (found body rest) f e = whole-read (b ∷ l) body rest h f (readAt v01 body) refl r n e
+    by (found body rest) f e = whole-read v (b ∷ l) body rest h f (readAt v body) refl r n e
 
 -- the bytes of the record at a place, which ends before `after`
 abbrev pub bodyAt : ℕ → ℕ → List ℕ → List ℕ
 bodyAt p after l = take (after - (p + 2)) (drop (p + 2) l)
 
-pub record-sized : (l : List ℕ) → areBytes l ≡ true → (p : ℕ) (r : Record) (k : ℕ) → nextIn v01 (drop p l) ≡ Whole r k → Sized (drop p l) k
-record-sized l h p r k e = whole-sized (drop p l) (bytes-drop p l h) r k e
+pub record-sized : (v : Version) (l : List ℕ) → areBytes l ≡ true → (p : ℕ) (r : Record) (k : ℕ) → nextIn v (drop p l) ≡ Whole r k → Sized (drop p l) k
+record-sized v l h p r k e = whole-sized v (drop p l) (bytes-drop p l h) r k e
 
 -- what the journal holds from there on, by what stands next
-module _ (l : List ℕ) (h : areBytes l ≡ true) (p : ℕ) where
-  holds-next : (next : Next) → nextIn v01 (drop p l) ≡ next → records v01 (drop p l) ≡ afterNext v01 (drop p l) next
-  holds-next next e = next-gives-the-contents v01 (drop p l) (bytes-drop p l h) ∙ ap (afterNext v01 (drop p l)) e
+module _ (v : Version) (l : List ℕ) (h : areBytes l ≡ true) (p : ℕ) where
+  holds-next : (next : Next) → nextIn v (drop p l) ≡ next → records v (drop p l) ≡ afterNext v (drop p l) next
+  holds-next next e = next-gives-the-contents v (drop p l) (bytes-drop p l h) ∙ ap (afterNext v (drop p l)) e
 
-  pub left-at-end : nextIn v01 (drop p l) ≡ End → records v01 (drop p l) ≡ ended
+  pub left-at-end : nextIn v (drop p l) ≡ End → records v (drop p l) ≡ ended
   left-at-end e = holds-next End e
 
-  pub left-at-stop : (number : ℕ) → nextIn v01 (drop p l) ≡ Stop number → records v01 (drop p l) ≡ stopped number
+  pub left-at-stop : (number : ℕ) → nextIn v (drop p l) ≡ Stop number → records v (drop p l) ≡ stopped number
   left-at-stop number e = holds-next (Stop number) e
 
-  module _ (r : Record) (k : ℕ) (e : nextIn v01 (drop p l) ≡ Whole r k) where
+  module _ (r : Record) (k : ℕ) (e : nextIn v (drop p l) ≡ Whole r k) where
     record-body : take (k - 2) (drop 2 (drop p l)) ≡ bodyAt p (p + k) l
     record-body =
-        let s : k - 2 ≡ p + k - (p + 2) = omega (arith, record-sized l h p r k e .least) in
+        let s : k - 2 ≡ p + k - (p + 2) = omega (arith, record-sized v l h p r k e .least) in
         rw (s, drop-drop 2 p l)
 
-    pub left-at-record : records v01 (drop p l) ≡ after (callAt v01 r (bodyAt p (p + k) l)) (records v01 (drop (p + k) l))
+    pub left-at-record : records v (drop p l) ≡ after (callAt v r (bodyAt p (p + k) l)) (records v (drop (p + k) l))
     left-at-record = holds-next (Whole r k) e ∙ rw (record-body, drop-drop k p l)

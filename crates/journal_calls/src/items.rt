@@ -13,6 +13,7 @@ use amount::Cap;
 use journal::Kind;
 use journal::Next;
 use journal::Record;
+use journal::Version;
 use journal::next_record;
 use rules::Mode;
 
@@ -84,14 +85,14 @@ fn no_item(group: Group, p: usize) -> Item
     }
 }
 
-// What stands at a place. Past the journal's last byte that is its end.
-pub fn item_at(journal: &[u8], p: usize) -> Item
-    ensures { λ r. ⌜ StandsAt (now (journal .entry)) p r ⌝ }
+// What stands at a place of the records of a journal. Past the journal's last byte that is its end.
+pub fn item_at(v: Version, journal: &[u8], p: usize) -> Item
+    ensures { λ r. ⌜ StandsAt v (now (journal .entry)) p r ⌝ }
 {
     if journal.len() <= p {
         return no_item(Group::End, p);
     }
-    let next = next_record(&journal[p..]);
+    let next = next_record(v, &journal[p..]);
     match next {
         Next::End => no_item(Group::End, p),
         Next::Stop(number) => no_item(Group::Stop(number), p),

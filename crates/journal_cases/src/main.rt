@@ -5,6 +5,8 @@ use journal::Fields;
 use journal::Next;
 use journal::Reading;
 use journal::Record;
+use journal::Start;
+use journal::Version;
 use rules::Mode;
 
 const OUT: i32 = 1;
@@ -71,7 +73,7 @@ fn show_record(body: &[u8], r: Record) {
 
 // One record's bytes.
 fn show(body: &[u8]) {
-    match journal::read_record(body) {
+    match journal::read_record(Version::V01, body) {
         Reading::Fits(r) => show_record(body, r),
         Reading::Refused(n) => {
             field(b"", n as u64);
@@ -94,7 +96,7 @@ fn thrice(s: &[u8]) {
 }
 
 fn next(rest: &[u8]) {
-    match journal::next_record(rest) {
+    match journal::next_record(Version::V01, rest) {
         Next::End => word(b"end\n"),
         Next::Whole(_, n) => {
             field(b"whole ", n as u64);
@@ -107,8 +109,12 @@ fn next(rest: &[u8]) {
     }
 }
 
+// The number of a fault at the start, or 0.
 fn start(journal: &[u8]) {
-    field(b"start ", journal::start_fault(journal) as u64);
+    match journal::start_of(journal) {
+        Start::Records(_) => field(b"start ", 0),
+        Start::Fault(n) => field(b"start ", n as u64),
+    }
     word(b"\n");
 }
 
@@ -212,7 +218,7 @@ fn written_in(kind: u8, text: &[u8], mode: u8, buf: &mut [u8]) {
         from: 10,
         until: 20,
     };
-    let w = journal_writer::write_record(d, text, buf);
+    let w = journal_writer::write_record(Version::V01, d, text, buf);
     field(b"write ", w.number as u64);
     field(b" ", w.len as u64);
     word(b" ");

@@ -52,7 +52,9 @@ pub ruleset number-puts = (number-step, number-end, number-start, needs)
 pub over-pair : (at w : ℕ) (a b buf : List ℕ) → length a ≡ w → at + w ≤ length buf → over (at + w) b (over at a buf) ≡ over at (a ++ b) buf
 over-pair at w a b buf e h = ap (λ (k : ℕ). over (at + k) b (over at a buf)) (sym e) ∙ over-over at a b buf (rw e h)
 
--- a text: its length, and then its bytes
-pub text-over : (at : ℕ) (t buf m out : List ℕ) → at + (1 + length t) ≤ length buf → m ≡ over at (bytesOf 1 (length t)) buf → out ≡ over (at + 1) t m
-    → out ≡ over at (bytesOf 1 (length t) ++ t) buf
-text-over at t buf m out h e f = f ∙ ap (over (at + 1) t) e ∙ over-pair at 1 (bytesOf 1 (length t)) t buf (length-bytesOf 1 (length t)) (omega arith)
+-- a text: its length, of w bytes, and then its bytes
+pub text-over : (at w n : ℕ) (t buf m out : List ℕ) → w ≡ n → at + (n + length t) ≤ length buf → m ≡ over at (bytesOf w (length t)) buf → out ≡ over (at + w) t m
+    → out ≡ over at (bytesOf n (length t) ++ t) buf
+text-over at w n t buf m out q h e f =
+    rw (← q)
+    (f ∙ ap (over (at + w) t) e ∙ over-pair at w (bytesOf w (length t)) t buf (length-bytesOf w (length t)) (omega arith))

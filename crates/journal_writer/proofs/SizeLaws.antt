@@ -22,7 +22,9 @@ use Rattle.journal.specs.declared.Size.the-variants.{Bytes, Bad}
 use Rattle.journal.specs.Numbers.{bytesOf}
 use Rattle.journal.specs.NumberLaws.{length-bytesOf}
 use Rattle.journal.specs.Fields.{encode, capBytes}
-use Rattle.journal.specs.Records.{v01}
+use Rattle.journal.specs.declared.Version.{Version}
+use Rattle.journal.specs.Records.{textWidth, textMost}
+use Rattle.journal.specs.VersionLaws.{width-most, text-most}
 use Rattle.journal.specs.Table.{padded, fieldsMost}
 use Rattle.journal.specs.Writes.{modeIn, givable, givableAll, fieldBytes, fieldsBytes, fieldSize, fieldsSize, small}
 
@@ -42,62 +44,62 @@ field-in fields count i h k =
 
 -- ---- the size of one field
 
-pub size-ok : (f : Field) (d : Fields) (t : List ℕ) (k : ℕ) → givable v01 f d t ≡ true → length (fieldBytes v01 f d t) ≡ k → Bytes k ≡ fieldSize v01 f d t
+pub size-ok : (v : Version) (f : Field) (d : Fields) (t : List ℕ) (k : ℕ) → givable v f d t ≡ true → length (fieldBytes v f d t) ≡ k → Bytes k ≡ fieldSize v f d t
 unfolding fieldSize
-size-ok f d t k g e = rw (g, e)
+size-ok v f d t k g e = rw (g, e)
 
-pub size-no : (f : Field) (d : Fields) (t : List ℕ) → givable v01 f d t ≡ false → Bad ≡ fieldSize v01 f d t
+pub size-no : (v : Version) (f : Field) (d : Fields) (t : List ℕ) → givable v f d t ≡ false → Bad ≡ fieldSize v f d t
 unfolding fieldSize
-size-no f d t g = rw g
+size-no v f d t g = rw g
 
 -- the bytes of each field
-pub no-bytes : (d : Fields) (t : List ℕ) → fieldBytes v01 its.No d t ≡ bytesOf 4 (d .no)
+pub no-bytes : (v : Version) (d : Fields) (t : List ℕ) → fieldBytes v its.No d t ≡ bytesOf 4 (d .no)
 unfolding fieldBytes encode
-no-bytes d t = refl
+no-bytes v d t = refl
 
-pub slot-bytes : (d : Fields) (t : List ℕ) → fieldBytes v01 its.Slot d t ≡ bytesOf 1 (d .slot)
+pub slot-bytes : (v : Version) (d : Fields) (t : List ℕ) → fieldBytes v its.Slot d t ≡ bytesOf 1 (d .slot)
 unfolding fieldBytes encode
-slot-bytes d t = refl
+slot-bytes v d t = refl
 
-pub k-bytes : (d : Fields) (t : List ℕ) → fieldBytes v01 its.K d t ≡ bytesOf 1 (d .k)
+pub k-bytes : (v : Version) (d : Fields) (t : List ℕ) → fieldBytes v its.K d t ≡ bytesOf 1 (d .k)
 unfolding fieldBytes encode
-k-bytes d t = refl
+k-bytes v d t = refl
 
-pub m-bytes : (d : Fields) (t : List ℕ) → fieldBytes v01 its.M d t ≡ bytesOf 1 (d .m)
+pub m-bytes : (v : Version) (d : Fields) (t : List ℕ) → fieldBytes v its.M d t ≡ bytesOf 1 (d .m)
 unfolding fieldBytes encode
-m-bytes d t = refl
+m-bytes v d t = refl
 
-pub amount-bytes : (d : Fields) (t : List ℕ) → fieldBytes v01 its.Amount d t ≡ bytesOf 8 (d .amount)
+pub amount-bytes : (v : Version) (d : Fields) (t : List ℕ) → fieldBytes v its.Amount d t ≡ bytesOf 8 (d .amount)
 unfolding fieldBytes encode
-amount-bytes d t = refl
+amount-bytes v d t = refl
 
-pub from-bytes : (d : Fields) (t : List ℕ) → fieldBytes v01 its.From d t ≡ bytesOf 8 (d .«from»)
+pub from-bytes : (v : Version) (d : Fields) (t : List ℕ) → fieldBytes v its.From d t ≡ bytesOf 8 (d .«from»)
 unfolding fieldBytes encode
-from-bytes d t = refl
+from-bytes v d t = refl
 
-pub until-bytes : (d : Fields) (t : List ℕ) → fieldBytes v01 its.Until d t ≡ bytesOf 8 (d .until)
+pub until-bytes : (v : Version) (d : Fields) (t : List ℕ) → fieldBytes v its.Until d t ≡ bytesOf 8 (d .until)
 unfolding fieldBytes encode
-until-bytes d t = refl
+until-bytes v d t = refl
 
-pub account-bytes : (d : Fields) (t : List ℕ) → fieldBytes v01 its.Account d t ≡ d .account
+pub account-bytes : (v : Version) (d : Fields) (t : List ℕ) → fieldBytes v its.Account d t ≡ d .account
 unfolding fieldBytes encode
-account-bytes d t = refl
+account-bytes v d t = refl
 
-pub hash-bytes : (d : Fields) (t : List ℕ) → fieldBytes v01 its.Hash d t ≡ d .hash
+pub hash-bytes : (v : Version) (d : Fields) (t : List ℕ) → fieldBytes v its.Hash d t ≡ d .hash
 unfolding fieldBytes encode
-hash-bytes d t = refl
+hash-bytes v d t = refl
 
-pub text-bytes : (d : Fields) (t : List ℕ) → fieldBytes v01 its.Text d t ≡ bytesOf 1 (length t) ++ t
+pub text-bytes : (v : Version) (d : Fields) (t : List ℕ) → fieldBytes v its.Text d t ≡ bytesOf (textWidth v) (length t) ++ t
 unfolding fieldBytes encode
-text-bytes d t = refl
+text-bytes v d t = refl
 
-pub cap-bytes : (d : Fields) (t : List ℕ) → fieldBytes v01 its.Cap d t ≡ capBytes (d .cap)
+pub cap-bytes : (v : Version) (d : Fields) (t : List ℕ) → fieldBytes v its.Cap d t ≡ capBytes (d .cap)
 unfolding fieldBytes encode
-cap-bytes d t = refl
+cap-bytes v d t = refl
 
-pub none-bytes : (d : Fields) (t : List ℕ) → fieldBytes v01 its.None d t ≡ []
+pub none-bytes : (v : Version) (d : Fields) (t : List ℕ) → fieldBytes v its.None d t ≡ []
 unfolding fieldBytes encode
-none-bytes d t = refl
+none-bytes v d t = refl
 
 -- a mode's number is its byte
 mode-number : (n : ℕ) → n ≤ 2 → modeNumber (modeIn n) ≡ n
@@ -106,137 +108,140 @@ mode-number (suc zero) h = refl
 mode-number (suc (suc zero)) h = refl
 mode-number (suc (suc (suc n))) h = absurd (omega arith)
 
-pub mode-bytes : (d : Fields) (t : List ℕ) → d .mode ≤ 2 → fieldBytes v01 its.Mode d t ≡ bytesOf 1 (d .mode)
+pub mode-bytes : (v : Version) (d : Fields) (t : List ℕ) → d .mode ≤ 2 → fieldBytes v its.Mode d t ≡ bytesOf 1 (d .mode)
 unfolding fieldBytes encode
-mode-bytes d t h = ap (bytesOf 1) (mode-number (d .mode) h)
+mode-bytes v d t h = ap (bytesOf 1) (mode-number (d .mode) h)
 
 -- ---- the arms of the match on the field: f is the field that the arm names
 
-module _ (f : Field) (d : Fields) (t : List ℕ) where
-  arm : (g : Field) (k : ℕ) → f ≡ g → givable v01 g d t ≡ true → length (fieldBytes v01 g d t) ≡ k → Bytes k ≡ fieldSize v01 f d t
-  arm g k e a b = rw e (size-ok g d t k a b)
+module _ (v : Version) (f : Field) (d : Fields) (t : List ℕ) where
+  arm : (g : Field) (k : ℕ) → f ≡ g → givable v g d t ≡ true → length (fieldBytes v g d t) ≡ k → Bytes k ≡ fieldSize v f d t
+  arm g k e a b = rw e (size-ok v g d t k a b)
 
-  pub account-size : f ≡ its.Account → length (d .account) ≡ 32 → Bytes 32 ≡ fieldSize v01 f d t
-  account-size e h = arm its.Account 32 e refl (ap length (account-bytes d t) ∙ h)
+  pub account-size : f ≡ its.Account → length (d .account) ≡ 32 → Bytes 32 ≡ fieldSize v f d t
+  account-size e h = arm its.Account 32 e refl (ap length (account-bytes v d t) ∙ h)
 
-  pub hash-size : f ≡ its.Hash → length (d .hash) ≡ 32 → Bytes 32 ≡ fieldSize v01 f d t
-  hash-size e h = arm its.Hash 32 e refl (ap length (hash-bytes d t) ∙ h)
+  pub hash-size : f ≡ its.Hash → length (d .hash) ≡ 32 → Bytes 32 ≡ fieldSize v f d t
+  hash-size e h = arm its.Hash 32 e refl (ap length (hash-bytes v d t) ∙ h)
 
-  pub no-size : f ≡ its.No → Bytes 4 ≡ fieldSize v01 f d t
-  no-size e = arm its.No 4 e refl (ap length (no-bytes d t) ∙ length-bytesOf 4 (d .no))
+  pub no-size : f ≡ its.No → Bytes 4 ≡ fieldSize v f d t
+  no-size e = arm its.No 4 e refl (ap length (no-bytes v d t) ∙ length-bytesOf 4 (d .no))
 
-  pub slot-size : f ≡ its.Slot → Bytes 1 ≡ fieldSize v01 f d t
-  slot-size e = arm its.Slot 1 e refl (ap length (slot-bytes d t) ∙ length-bytesOf 1 (d .slot))
+  pub slot-size : f ≡ its.Slot → Bytes 1 ≡ fieldSize v f d t
+  slot-size e = arm its.Slot 1 e refl (ap length (slot-bytes v d t) ∙ length-bytesOf 1 (d .slot))
 
-  pub k-size : f ≡ its.K → Bytes 1 ≡ fieldSize v01 f d t
-  k-size e = arm its.K 1 e refl (ap length (k-bytes d t) ∙ length-bytesOf 1 (d .k))
+  pub k-size : f ≡ its.K → Bytes 1 ≡ fieldSize v f d t
+  k-size e = arm its.K 1 e refl (ap length (k-bytes v d t) ∙ length-bytesOf 1 (d .k))
 
-  pub m-size : f ≡ its.M → Bytes 1 ≡ fieldSize v01 f d t
-  m-size e = arm its.M 1 e refl (ap length (m-bytes d t) ∙ length-bytesOf 1 (d .m))
+  pub m-size : f ≡ its.M → Bytes 1 ≡ fieldSize v f d t
+  m-size e = arm its.M 1 e refl (ap length (m-bytes v d t) ∙ length-bytesOf 1 (d .m))
 
-  pub amount-size : f ≡ its.Amount → Bytes 8 ≡ fieldSize v01 f d t
-  amount-size e = arm its.Amount 8 e refl (ap length (amount-bytes d t) ∙ length-bytesOf 8 (d .amount))
+  pub amount-size : f ≡ its.Amount → Bytes 8 ≡ fieldSize v f d t
+  amount-size e = arm its.Amount 8 e refl (ap length (amount-bytes v d t) ∙ length-bytesOf 8 (d .amount))
 
-  pub from-size : f ≡ its.From → Bytes 8 ≡ fieldSize v01 f d t
-  from-size e = arm its.From 8 e refl (ap length (from-bytes d t) ∙ length-bytesOf 8 (d .«from»))
+  pub from-size : f ≡ its.From → Bytes 8 ≡ fieldSize v f d t
+  from-size e = arm its.From 8 e refl (ap length (from-bytes v d t) ∙ length-bytesOf 8 (d .«from»))
 
-  pub until-size : f ≡ its.Until → Bytes 8 ≡ fieldSize v01 f d t
-  until-size e = arm its.Until 8 e refl (ap length (until-bytes d t) ∙ length-bytesOf 8 (d .until))
+  pub until-size : f ≡ its.Until → Bytes 8 ≡ fieldSize v f d t
+  until-size e = arm its.Until 8 e refl (ap length (until-bytes v d t) ∙ length-bytesOf 8 (d .until))
 
-  pub none-size : f ≡ its.None → Bytes 0 ≡ fieldSize v01 f d t
-  none-size e = arm its.None 0 e refl (ap length (none-bytes d t))
+  pub none-size : f ≡ its.None → Bytes 0 ≡ fieldSize v f d t
+  none-size e = arm its.None 0 e refl (ap length (none-bytes v d t))
 
-  pub mode-size : f ≡ its.Mode → d .mode ≤ 2 → Bytes 1 ≡ fieldSize v01 f d t
-  mode-size e h = arm its.Mode 1 e (le-leb (d .mode) 2 h) (ap length (mode-bytes d t h) ∙ length-bytesOf 1 (d .mode))
+  pub mode-size : f ≡ its.Mode → d .mode ≤ 2 → Bytes 1 ≡ fieldSize v f d t
+  mode-size e h = arm its.Mode 1 e (le-leb (d .mode) 2 h) (ap length (mode-bytes v d t h) ∙ length-bytesOf 1 (d .mode))
 
-  pub text-size : f ≡ its.Text → length t ≤ 255 → Bytes (1 + length t) ≡ fieldSize v01 f d t
-  text-size e h =
-      arm its.Text (1 + length t) e (le-leb (length t) 255 h)
-      (ap length (text-bytes d t) ∙ length-append (bytesOf 1 (length t)) t ∙ rw (length-bytesOf 1 (length t)))
+  -- w is the width of its length, and `most` the longest
+  module _ (e : f ≡ its.Text) (most : ℕ) (q : most ≡ textMost v) where
+    pub text-size : (w : ℕ) → w ≡ textWidth v → length t ≤ most → Bytes (w + length t) ≡ fieldSize v f d t
+    text-size w p h =
+        rw p
+        (arm its.Text (textWidth v + length t) e (le-leb (length t) (textMost v) (rw q at h))
+        (ap length (text-bytes v d t) ∙ length-append (bytesOf (textWidth v) (length t)) t ∙ rw (length-bytesOf (textWidth v) (length t))))
 
-  pub cap-size : (k : ℕ) → f ≡ its.Cap → k ≡ length (capBytes (d .cap)) → Bytes k ≡ fieldSize v01 f d t
-  cap-size k e h = arm its.Cap k e refl (ap length (cap-bytes d t) ∙ sym h)
+    pub text-bad : most < length t → Bad ≡ fieldSize v f d t
+    text-bad h = rw e (size-no v its.Text d t (lt-leb (length t) (textMost v) (rw q at h)))
 
-  pub mode-bad : f ≡ its.Mode → 2 < d .mode → Bad ≡ fieldSize v01 f d t
-  mode-bad e h = rw e (size-no its.Mode d t (lt-leb (d .mode) 2 h))
+  pub cap-size : (k : ℕ) → f ≡ its.Cap → k ≡ length (capBytes (d .cap)) → Bytes k ≡ fieldSize v f d t
+  cap-size k e h = arm its.Cap k e refl (ap length (cap-bytes v d t) ∙ sym h)
 
-  pub text-bad : f ≡ its.Text → 255 < length t → Bad ≡ fieldSize v01 f d t
-  text-bad e h = rw e (size-no its.Text d t (lt-leb (length t) 255 h))
+  pub mode-bad : f ≡ its.Mode → 2 < d .mode → Bad ≡ fieldSize v f d t
+  mode-bad e h = rw e (size-no v its.Mode d t (lt-leb (d .mode) 2 h))
 
 pub ruleset arms =
     (account-size, hash-size, no-size, slot-size, k-size, m-size, amount-size, from-size, until-size, none-size, mode-size, text-size, cap-size, mode-bad, text-bad, needs)
 
 -- ---- the size of a list of fields
 
-size-inv : (f : Field) (d : Fields) (t : List ℕ) (g : Bool) (k : ℕ) → cond g (Bytes (length (fieldBytes v01 f d t))) Bad ≡ Bytes k
-    → (g ≡ true) × (length (fieldBytes v01 f d t) ≡ k)
-size-inv f d t true k e = (refl, cc)
-size-inv f d t false k e = let z : _≡_ {A = ℕ} 0 1 = cc in absurd (omega arith)
+size-inv : (v : Version) (f : Field) (d : Fields) (t : List ℕ) (g : Bool) (k : ℕ) → cond g (Bytes (length (fieldBytes v f d t))) Bad ≡ Bytes k
+    → (g ≡ true) × (length (fieldBytes v f d t) ≡ k)
+size-inv v f d t true k e = (refl, cc)
+size-inv v f d t false k e = let z : _≡_ {A = ℕ} 0 1 = cc in absurd (omega arith)
 
-pub size-more : (f : Field) (fs : List Field) (d : Fields) (t : List ℕ) (n k : ℕ) → fieldSize v01 f d t ≡ Bytes k
-    → fieldsSize v01 n (f ∷ fs) d t ≡ fieldsSize v01 (n + k) fs d t
+pub size-more : (v : Version) (f : Field) (fs : List Field) (d : Fields) (t : List ℕ) (n k : ℕ) → fieldSize v f d t ≡ Bytes k
+    → fieldsSize v n (f ∷ fs) d t ≡ fieldsSize v (n + k) fs d t
 unfolding fieldSize fieldsSize givableAll fieldsBytes
-size-more f fs d t n k e =
-    let p = size-inv f d t (givable v01 f d t) k e in
-    let z : n + length (fieldBytes v01 f d t ++ fieldsBytes v01 fs d t) ≡ n + k + length (fieldsBytes v01 fs d t) =
-    omega (arith, length-append (fieldBytes v01 f d t) (fieldsBytes v01 fs d t), p .1) in
+size-more v f fs d t n k e =
+    let p = size-inv v f d t (givable v f d t) k e in
+    let z : n + length (fieldBytes v f d t ++ fieldsBytes v fs d t) ≡ n + k + length (fieldsBytes v fs d t) =
+    omega (arith, length-append (fieldBytes v f d t) (fieldsBytes v fs d t), p .1) in
     rw (p .0, z)
 
-pub size-stop : (f : Field) (fs : List Field) (d : Fields) (t : List ℕ) (n : ℕ) → fieldSize v01 f d t ≡ Bad → fieldsSize v01 n (f ∷ fs) d t ≡ Bad
+pub size-stop : (v : Version) (f : Field) (fs : List Field) (d : Fields) (t : List ℕ) (n : ℕ) → fieldSize v f d t ≡ Bad → fieldsSize v n (f ∷ fs) d t ≡ Bad
 unfolding fieldSize fieldsSize givableAll
-size-stop f fs d t n e = go (givable v01 f d t) refl e
+size-stop v f fs d t n e = go (givable v f d t) refl e
   where
-    go : (g : Bool) → givable v01 f d t ≡ g → cond g (Bytes (length (fieldBytes v01 f d t))) Bad ≡ Bad
-        → cond (givable v01 f d t && givableAll v01 fs d t) (Bytes (n + length (fieldsBytes v01 (f ∷ fs) d t))) Bad ≡ Bad
+    go : (g : Bool) → givable v f d t ≡ g → cond g (Bytes (length (fieldBytes v f d t))) Bad ≡ Bad
+        → cond (givable v f d t && givableAll v fs d t) (Bytes (n + length (fieldsBytes v (f ∷ fs) d t))) Bad ≡ Bad
     go true q e = cc
     go false q e = rw q
 
-pub size-end : (d : Fields) (t : List ℕ) (n : ℕ) → fieldsSize v01 n [] d t ≡ Bytes n
+pub size-end : (v : Version) (d : Fields) (t : List ℕ) (n : ℕ) → fieldsSize v n [] d t ≡ Bytes n
 unfolding fieldsSize givableAll fieldsBytes
-size-end d t n = let z : n + 0 ≡ n = omega arith in ap Bytes z
+size-end v d t n = let z : n + 0 ≡ n = omega arith in ap Bytes z
 
 -- the loop that measures the fields: with the n bytes of those before i, the fields from i on have the size of all
-pub record SizeLoop (fields : List Field) (count : ℕ) (d : Fields) (t : List ℕ) (n i : ℕ) : Type 0 where
+pub record SizeLoop (v : Version) (fields : List Field) (count : ℕ) (d : Fields) (t : List ℕ) (n i : ℕ) : Type 0 where
   pub few : count ≤ 7
   pub within : count ≤ length fields
   pub place : i ≤ count
-  pub most : n ≤ 256 * i
-  pub rest : fieldsSize v01 0 (take count fields) d t ≡ fieldsSize v01 n (drop i (take count fields)) d t
+  pub most : n ≤ 1026 * i
+  pub rest : fieldsSize v 0 (take count fields) d t ≡ fieldsSize v n (drop i (take count fields)) d t
 
-module _ (fields : List Field) (count : ℕ) (d : Fields) (t : List ℕ) where
-  pub size-start : (fs : List Field) → fields ≡ padded fs → count ≡ length fs → count ≤ 7 → SizeLoop fields count d t 0 0
+module _ (v : Version) (fields : List Field) (count : ℕ) (d : Fields) (t : List ℕ) where
+  pub size-start : (fs : List Field) → fields ≡ padded fs → count ≡ length fs → count ≤ 7 → SizeLoop v fields count d t 0 0
   size-start fs e l h = record { few = h; within = count-within fs fields count e l; place = omega arith; most = omega arith; rest = refl }
 
-  module _ (n i : ℕ) (h : SizeLoop fields count d t n i) where
+  module _ (n i : ℕ) (h : SizeLoop v fields count d t n i) where
     -- the size of all, where i is the next field
-    next-size : i < count → fieldsSize v01 0 (take count fields) d t
-        ≡ fieldsSize v01 n (getD fields i its.Account ∷ drop (suc i) (take count fields)) d t
-    next-size k = h .rest ∙ ap (λ (gs : List Field). fieldsSize v01 n gs d t) (field-in fields count i k (h .within))
+    next-size : i < count → fieldsSize v 0 (take count fields) d t
+        ≡ fieldsSize v n (getD fields i its.Account ∷ drop (suc i) (take count fields)) d t
+    next-size k = h .rest ∙ ap (λ (gs : List Field). fieldsSize v n gs d t) (field-in fields count i k (h .within))
 
-    pub all-sized : (fs : List Field) → fields ≡ padded fs → count ≡ length fs → count ≤ i → Bytes n ≡ fieldsSize v01 0 fs d t
+    pub all-sized : (fs : List Field) → fields ≡ padded fs → count ≡ length fs → count ≤ i → Bytes n ≡ fieldsSize v 0 fs d t
     all-sized fs e l k =
         let z : drop i (take count fields) ≡ [] = drop-of-length-le (take count fields) {i = i} (omega (arith, length-take-le count fields (h .within))) in
-        rw (← fields-taken fs fields count e l, h .rest, z) (sym (size-end d t n))
+        rw (← fields-taken fs fields count e l, h .rest, z) (sym (size-end v d t n))
 
     -- s is the size of field i
-    module _ (s : Size) (w : s ≡ fieldSize v01 (getD fields i its.Account) d t) (j : i < count) where
-      pub one-bad : (fs : List Field) → fields ≡ padded fs → count ≡ length fs → s ≡ Bad → Bad ≡ fieldsSize v01 0 fs d t
+    module _ (s : Size) (w : s ≡ fieldSize v (getD fields i its.Account) d t) (j : i < count) where
+      pub one-bad : (fs : List Field) → fields ≡ padded fs → count ≡ length fs → s ≡ Bad → Bad ≡ fieldsSize v 0 fs d t
       one-bad fs e l b =
           rw (← fields-taken fs fields count e l, next-size j)
-          (sym (size-stop (getD fields i its.Account) (drop (suc i) (take count fields)) d t n (sym w ∙ b)))
+          (sym (size-stop v (getD fields i its.Account) (drop (suc i) (take count fields)) d t n (sym w ∙ b)))
 
       module _ (k : ℕ) (b : s ≡ Bytes k) (m : small s) where
-        short : k ≤ 256
+        short : k ≤ 1026
         short = rw b at m
 
-        pub size-step : SizeLoop fields count d t (n + k) (i + 1)
+        pub size-step : SizeLoop v fields count d t (n + k) (i + 1)
         size-step =
             record {
               few = h .few;
               within = h .within;
               place = omega arith;
               most = omega (arith, short);
-              rest = rw (add-one i) (next-size j ∙ size-more (getD fields i its.Account) (drop (suc i) (take count fields)) d t n k (sym w ∙ b));
+              rest = rw (add-one i) (next-size j ∙ size-more v (getD fields i its.Account) (drop (suc i) (take count fields)) d t n k (sym w ∙ b));
             }
 
         pub size-room : Fits w64 (n + k)

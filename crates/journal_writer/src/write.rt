@@ -5,7 +5,7 @@ ghost use Prim.Native.Nat.{_+_, _≤_};
 ghost use lib.ListN.{length};
 ghost use Rattle.journal.specs.Numbers.{bytesOf};
 ghost use Rattle.journal.specs.Fields.{capBytes};
-ghost use Rattle.journal.specs.Records.{v01, fieldsOf};
+ghost use Rattle.journal.specs.Records.{textWidth, fieldsOf};
 ghost use Rattle.journal.specs.Writes.{over, textBytes, recordIn, answerOf, bufferOf, fieldBytes, fieldsBytes, givable, givableAll, fieldSize, fieldsSize, small, sized};
 use super::bytes::put_bytes;
 use super::bytes::put_number;
@@ -15,12 +15,13 @@ use journal::Fields;
 use journal::Kind;
 use journal::Named;
 use journal::Size;
-use journal::TEXT_MOST;
-use journal::TEXT_WIDTH;
+use journal::Version;
 use journal::Written;
 use journal::field_count;
 use journal::fields_of;
 use journal::kind_named;
+use journal::text_most;
+use journal::text_width;
 use rules::numbers::BAD;
 use rules::numbers::ROOM;
 
@@ -34,8 +35,8 @@ fn cap_size(cap: Cap) -> usize
 }
 
 // How many bytes a field takes, or that the reader cannot give it.
-fn field_size(f: Field, d: Fields, text: &[u8]) -> Size
-    ensures { λ r. ⌜ (r ≡ fieldSize v01 f d (now (text .entry))) × small r ⌝ }
+fn field_size(v: Version, f: Field, d: Fields, text: &[u8]) -> Size
+    ensures { λ r. ⌜ (r ≡ fieldSize v f d (now (text .entry))) × small r ⌝ }
 {
     match f {
         Field::Account => Size::Bytes(32),
@@ -44,10 +45,10 @@ fn field_size(f: Field, d: Fields, text: &[u8]) -> Size
         Field::K => Size::Bytes(1),
         Field::M => Size::Bytes(1),
         Field::Text => {
-            if TEXT_MOST < text.len() as u64 {
+            if text_most(v) < text.len() as u64 {
                 return Size::Bad;
             }
-            Size::Bytes(TEXT_WIDTH + text.len())
+            Size::Bytes(text_width(v) + text.len())
         }
         Field::Amount => Size::Bytes(8),
         Field::Hash => Size::Bytes(32),
@@ -68,16 +69,16 @@ fn field_size(f: Field, d: Fields, text: &[u8]) -> Size
 }
 
 // How many bytes the kind's fields take.
-fn measure(kind: Kind, d: Fields, text: &[u8]) -> Size
-    ensures { λ r. ⌜ (r ≡ fieldsSize v01 0 (fieldsOf v01 kind) d (now (text .entry))) × sized r ⌝ }
+fn measure(v: Version, kind: Kind, d: Fields, text: &[u8]) -> Size
+    ensures { λ r. ⌜ (r ≡ fieldsSize v 0 (fieldsOf v kind) d (now (text .entry))) × sized r ⌝ }
 {
-    let fields = fields_of(kind);
-    let count = field_count(kind);
+    let fields = fields_of(v, kind);
+    let count = field_count(v, kind);
     let mut n: usize = 0;
     let mut i: usize = 0;
     while i < count {
         let f = fields[i];
-        let Size::Bytes(k) = field_size(f, d, text) else {
+        let Size::Bytes(k) = field_size(v, f, d, text) else {
             return Size::Bad;
         };
         n += k;
@@ -102,12 +103,13 @@ fn put_block(out: &mut [u8], at: usize, b: &[u8; 32]) -> usize
     at + 32
 }
 
-fn put_text(out: &mut [u8], at: usize, text: &[u8]) -> usize
-    requires { ⌜ at + (1 + length (now text)) ≤ length (now out) ⌝ }
-    ensures { λ r. ⌜ (r ≡ at + (1 + length (now (text .entry)))) × (now (out .exit) ≡ over at (textBytes (now (text .entry))) (now (out .entry))) ⌝ }
+fn put_text(v: Version, out: &mut [u8], at: usize, text: &[u8]) -> usize
+    requires { ⌜ at + (textWidth v + length (now text)) ≤ length (now out) ⌝ }
+    ensures { λ r. ⌜ (r ≡ at + (textWidth v + length (now (text .entry)))) × (now (out .exit) ≡ over at (textBytes v (now (text .entry))) (now (out .entry))) ⌝ }
 {
-    put_number(out, at, TEXT_WIDTH, text.len() as u64);
-    let next = at + TEXT_WIDTH;
+    let w = text_width(v);
+    put_number(out, at, w, text.len() as u64);
+    let next = at + w;
     put_bytes(out, next, text);
     next + text.len()
 }
@@ -126,9 +128,9 @@ fn put_cap(out: &mut [u8], at: usize, cap: Cap) -> usize
 }
 
 // One field at its place; the place after it.
-fn put_field(out: &mut [u8], at: usize, f: Field, d: Fields, text: &[u8]) -> usize
-    requires { ⌜ (at + length (fieldBytes v01 f d (now text)) ≤ length (now out)) × (givable v01 f d (now text) ≡ true) ⌝ }
-    ensures { λ r. ⌜ (r ≡ at + length (fieldBytes v01 f d (now (text .entry)))) × (now (out .exit) ≡ over at (fieldBytes v01 f d (now (text .entry))) (now (out .entry))) ⌝ }
+fn put_field(v: Version, out: &mut [u8], at: usize, f: Field, d: Fields, text: &[u8]) -> usize
+    requires { ⌜ (at + length (fieldBytes v f d (now text)) ≤ length (now out)) × (givable v f d (now text) ≡ true) ⌝ }
+    ensures { λ r. ⌜ (r ≡ at + length (fieldBytes v f d (now (text .entry)))) × (now (out .exit) ≡ over at (fieldBytes v f d (now (text .entry))) (now (out .entry))) ⌝ }
 {
     let account = d.account;
     let hash = d.hash;
@@ -139,7 +141,7 @@ fn put_field(out: &mut [u8], at: usize, f: Field, d: Fields, text: &[u8]) -> usi
         Field::Slot => put_value(out, at, 1, d.slot as u64),
         Field::K => put_value(out, at, 1, d.k as u64),
         Field::M => put_value(out, at, 1, d.m as u64),
-        Field::Text => put_text(out, at, text),
+        Field::Text => put_text(v, out, at, text),
         Field::Amount => put_value(out, at, 8, d.amount),
         Field::Hash => put_block(out, at, &hash),
         Field::Mode => put_value(out, at, 1, d.mode as u64),
@@ -151,32 +153,32 @@ fn put_field(out: &mut [u8], at: usize, f: Field, d: Fields, text: &[u8]) -> usi
 }
 
 // The kind's fields, one after another from a place on.
-fn put_fields(out: &mut [u8], start: usize, kind: Kind, d: Fields, text: &[u8])
-    requires { ⌜ (start + length (fieldsBytes v01 (fieldsOf v01 kind) d (now text)) ≤ length (now out)) × (givableAll v01 (fieldsOf v01 kind) d (now text) ≡ true) ⌝ }
-    ensures { λ _. ⌜ now (out .exit) ≡ over start (fieldsBytes v01 (fieldsOf v01 kind) d (now (text .entry))) (now (out .entry)) ⌝ }
+fn put_fields(v: Version, out: &mut [u8], start: usize, kind: Kind, d: Fields, text: &[u8])
+    requires { ⌜ (start + length (fieldsBytes v (fieldsOf v kind) d (now text)) ≤ length (now out)) × (givableAll v (fieldsOf v kind) d (now text) ≡ true) ⌝ }
+    ensures { λ _. ⌜ now (out .exit) ≡ over start (fieldsBytes v (fieldsOf v kind) d (now (text .entry))) (now (out .entry)) ⌝ }
 {
-    let fields = fields_of(kind);
-    let count = field_count(kind);
+    let fields = fields_of(v, kind);
+    let count = field_count(v, kind);
     let mut at = start;
     let mut i: usize = 0;
     while i < count {
         let f = fields[i];
-        at = put_field(out, at, f, d, text);
+        at = put_field(v, out, at, f, d, text);
         i += 1;
     }
 }
 
 // The record with its length before it, at the front of the buffer; the bytes after it stay, and a refusal writes nothing.
-pub fn write_record(d: Fields, text: &[u8], out: &mut [u8]) -> Written
-    ensures { λ r. ⌜ (r ≡ answerOf (recordIn v01 d (now (text .entry))) (length (now (out .entry)))) × (now (out .exit) ≡ bufferOf (recordIn v01 d (now (text .entry))) (now (out .entry))) ⌝ }
+pub fn write_record(v: Version, d: Fields, text: &[u8], out: &mut [u8]) -> Written
+    ensures { λ r. ⌜ (r ≡ answerOf (recordIn v d (now (text .entry))) (length (now (out .entry)))) × (now (out .exit) ≡ bufferOf (recordIn v d (now (text .entry))) (now (out .entry))) ⌝ }
 {
-    let Named::Kind(kind) = kind_named(d.kind) else {
+    let Named::Kind(kind) = kind_named(v, d.kind) else {
         return Written {
             number: BAD,
             len: 0,
         };
     };
-    let Size::Bytes(n) = measure(kind, d, text) else {
+    let Size::Bytes(n) = measure(v, kind, d, text) else {
         return Written {
             number: BAD,
             len: 0,
@@ -191,6 +193,6 @@ pub fn write_record(d: Fields, text: &[u8], out: &mut [u8]) -> Written
     }
     put_number(out, 0, 2, (n + 1) as u64);
     put_number(out, 2, 1, d.kind as u64);
-    put_fields(out, 3, kind, d, text);
+    put_fields(v, out, 3, kind, d, text);
     Written { number: 0, len }
 }

@@ -46,6 +46,7 @@ use Rattle.commits.specs.Verdicts.{Judged}
 use Rattle.commits.specs.Within.{commitWithin}
 use Rattle.commits.specs.WithinLaws.{commit-sound}
 use Rattle.journal.specs.declared.Record.{Record}
+use Rattle.journal.specs.declared.Version.{Version}
 use Rattle.journal.specs.Records.{v01}
 use Rattle.journal.specs.Places.{callAt}
 use Rattle.journal_calls.specs.declared.RelayCall.{RelayCall}
@@ -120,7 +121,7 @@ module _ (g : Group) where
   commit-stand e = rw e
 
 -- y stands at p of the journal
-module _ (j : List ℕ) (p : ℕ) (y : Item) (ey : StandsAt j p y) where
+module _ (v : Version) (j : List ℕ) (p : ℕ) (y : Item) (ey : StandsAt v j p y) where
   abbrev r : Record
   r = y .fields
 
@@ -128,7 +129,7 @@ module _ (j : List ℕ) (p : ℕ) (y : Item) (ey : StandsAt j p y) where
   g = y .group
 
   named : isRecord g ≡ true → g ≡ groupOf (r .kind) (r .slot)
-  named w = item-named j p y (ey .same) w
+  named w = item-named v j p y (ey .same) w
 
   -- a slot that is there
   pub slot-below : (w : SlotCall) → g ≡ group.Slot w → r .slot < 4
@@ -263,7 +264,7 @@ module _ (j : List ℕ) (p : ℕ) (y : Item) (ey : StandsAt j p y) where
         slot-said = said (x .tables) (set slots (r .slot) (x .session)) works
 
     -- a commit; d would stand for a session past the slots
-    module _ (out₀ : List ℕ) (start n at : ℕ) (out : List ℕ) (h : ReplayLoop j out₀ start t slots n p at out) (d : Session) (e : g ≡ group.Commit) where
+    module _ (out₀ : List ℕ) (start n at : ℕ) (out : List ℕ) (h : ReplayLoop v j out₀ start t slots n p at out) (d : Session) (e : g ≡ group.Commit) where
       abbrev session : Session
       session = getD slots (r .slot) d
 

@@ -18,8 +18,10 @@ use Rattle.rules.specs.Fresh.{freshDesk}
 use Rattle.rules.specs.Calls.{run}
 use Rattle.journal.specs.declared.Written.{Written}
 use Rattle.journal.specs.FieldLaws.{bytes-drop}
-use Rattle.journal.specs.Records.{v01}
-use Rattle.journal.specs.Journal.{journalMost, TOO-LARGE, stop, Contents, stopped, records, contents, versionFault, startFault, afterStart}
+use Rattle.journal.specs.declared.Version.{Version}
+use Rattle.journal.specs.declared.Start.{Start}
+use Rattle.journal.specs.declared.Start.the-variants.{Records, Fault}
+use Rattle.journal.specs.Journal.{journalMost, TOO-LARGE, VERSION, stop, Contents, stopped, records, contents, firstByte, startOf, afterStart}
 use Rattle.journal.specs.Theorems.{start-gives-the-contents}
 use Rattle.journal.specs.FieldLaws.{bytes-known}
 use Rattle.transcripts.specs.declared.Replayed.{Replayed}
@@ -48,22 +50,18 @@ least-room n = omega arith
 
 -- ---- the journal's start
 
-faulty : (l : List ℕ) (f : ℕ) → (f ≡ 0 → ⊥) → afterStart f l ≡ stopped f
-faulty l zero n = absurd (n refl)
-faulty l (suc f) n = refl
-
-within-most : (l : List ℕ) → startFault l ≡ 0 → length l ≤ journalMost
-unfolding startFault
-within-most l e = by (ltb journalMost (length l)) refl e
+within-most : (l : List ℕ) (v : Version) → startOf l ≡ Records v → length l ≤ journalMost
+unfolding startOf
+within-most l v e = by (ltb journalMost (length l)) refl e
   where
-    by : (t : Bool) → ltb journalMost (length l) ≡ t → cond t TOO-LARGE (versionFault l) ≡ 0 → length l ≤ journalMost
-    by true f g = absurd (omega (arith, g))
+    by : (t : Bool) → ltb journalMost (length l) ≡ t → cond t (Fault TOO-LARGE) (firstByte l) ≡ Records v → length l ≤ journalMost
+    by true f g = absurd (let z : _≡_ {A = ℕ} 0 1 = cc in omega arith)
     by false f g = ltb-false journalMost (length l) f
 
-pub some-there : (l : List ℕ) (f : ℕ) → f ≡ startFault l → f ≡ 0 → 1 ≤ length l
-unfolding startFault
-some-there [] f e z = absurd (omega (arith, sym e ∙ z))
-some-there (b ∷ l) f e z = omega arith
+pub some-there : (l : List ℕ) (x : Start) (v : Version) → x ≡ startOf l → x ≡ Records v → 1 ≤ length l
+unfolding startOf
+some-there [] x v e z = absurd (let q : Fault VERSION ≡ Records v = sym e ∙ z in let y : _≡_ {A = ℕ} 0 1 = cc in omega arith)
+some-there (b ∷ l) x v e z = omega arith
 
 -- the bytes after the version, as the code has them
 abbrev pub onRecords : List ℕ → List ℕ
@@ -122,11 +120,11 @@ module _ (l out₀ : List ℕ) (room : ℕ) (er : room ≡ roomFor (length l)) w
       rest-wrote : (len : ℕ) (out : List ℕ) → Wrote at (restOf l) m len out → Wrote 0 (transcript l) out₀ len out
       rest-wrote len out v = rw parted (wrote-next 0 firstLine (restOf l) out₀ at m w both-room len out v)
 
-      -- f is the fault at the start
-      module _ (f : ℕ) (ef : f ≡ startFault l) where
-        module _ (n : f ≡ 0 → ⊥) where
+      -- x is what the start says: a fault, or the version of the records
+      module _ (x : Start) (ex : x ≡ startOf l) where
+        module _ (f : ℕ) (n : x ≡ Fault f) where
           none-held : contents l ≡ stopped f
-          none-held = start-gives-the-contents l ∙ rw (← ef) (faulty l f n)
+          none-held = start-gives-the-contents l ∙ rw (← ex, n)
 
           rest-stops : restOf l ≡ lastLine 0 (stop f)
           rest-stops = ap (printedFrom 0 startDesk) none-held ∙ from-stop 0 startDesk f
@@ -145,33 +143,33 @@ module _ (l out₀ : List ℕ) (room : ℕ) (er : room ≡ roomFor (length l)) w
             pub fault-buffer : out ≡ bufferOf l out₀
             fault-buffer = done-buffer len out (rest-wrote len out (rw rest-stops v))
 
-        module _ (z : f ≡ 0) where
-          held : contents l ≡ records v01 (onRecords l)
-          held = start-gives-the-contents l ∙ rw (← ef, z, all-records l)
+        module _ (v : Version) (z : x ≡ Records v) where
+          held : contents l ≡ records v (onRecords l)
+          held = start-gives-the-contents l ∙ rw (← ex, z, all-records l)
 
-          rest-reads : restOf l ≡ wholeOf (onRecords l)
+          rest-reads : restOf l ≡ wholeOf v (onRecords l)
           rest-reads = ap (printedFrom 0 startDesk) held
 
           pub records-bytes : areBytes (onRecords l) ≡ true
           records-bytes = rw (all-records l) (bytes-drop 1 l (bytes-known l (λ i. b i .fits)))
 
           pub records-few : length (onRecords l) < 65536
-          records-few = rw (all-records l) (omega (arith, length-drop 1 l, within-most l (sym ef ∙ z)))
+          records-few = rw (all-records l) (omega (arith, length-drop 1 l, within-most l v (sym ex ∙ z)))
 
-          pub records-room : at + length (wholeOf (onRecords l)) ≤ length m
+          pub records-room : at + length (wholeOf v (onRecords l)) ≤ length m
           records-room = rw (← rest-reads) rest-room
 
-          module _ (r : Replayed) (out : List ℕ) (v : Replays at (records v01 (onRecords l)) m r out) where
+          module _ (r : Replayed) (out : List ℕ) (k : Replays at (records v (onRecords l)) m r out) where
             desk-left : r .desk ≡ deskAfter l
             unfolding deskAfter
-            desk-left = v .desk ∙ ap (λ (k : Contents). run (k .calls) startDesk) (sym held)
+            desk-left = k .desk ∙ ap (λ (c : Contents). run (c .calls) startDesk) (sym held)
 
             pub read-answer : r ≡ replayedOf l out₀
-            read-answer = let e : r ≡ record { number = 0; len = r .len; desk = deskAfter l } = rw (v .number, desk-left) in
-                e ∙ done-answer (r .len) out (rest-wrote (r .len) out (rw rest-reads (v .wrote)))
+            read-answer = let e : r ≡ record { number = 0; len = r .len; desk = deskAfter l } = rw (k .number, desk-left) in
+                e ∙ done-answer (r .len) out (rest-wrote (r .len) out (rw rest-reads (k .wrote)))
 
             pub read-buffer : out ≡ bufferOf l out₀
-            read-buffer = done-buffer (r .len) out (rest-wrote (r .len) out (rw rest-reads (v .wrote)))
+            read-buffer = done-buffer (r .len) out (rest-wrote (r .len) out (rw rest-reads (k .wrote)))
 
 pub ruleset short = (short-answer, short-buffer)
 

@@ -21,6 +21,7 @@ use Rattle.rules.specs.Laws.StaysSound.{DeskInvariant}
 use Rattle.rules.specs.Laws.Reached.{call-keeps}
 use Rattle.rules.specs.Laws.FreshSound.{fresh-holds}
 use Rattle.journal.specs.declared.Record.{Record}
+use Rattle.journal.specs.declared.Version.{Version}
 use Rattle.journal.specs.Records.{v01}
 use Rattle.journal.specs.Places.{callAt}
 use Rattle.journal.specs.Journal.{Ending, end, stop, Contents, stopped, ended, after, records}
@@ -40,23 +41,23 @@ use Rattle.lists.specs.OverLaws.{length-over, over-over}
 use Rattle.transcripts.specs.Replay.{Replays}
 
 -- what is printed for the records l, and for those from p on, where n records left the tables t and the slots
-abbrev pub wholeOf : List ℕ → List ℕ
-wholeOf l = printedFrom 0 (freshDesk programRate) (records v01 l)
+abbrev pub wholeOf : Version → List ℕ → List ℕ
+wholeOf v l = printedFrom 0 (freshDesk programRate) (records v l)
 
-abbrev pub leftOf : List ℕ → Tables → List Session → ℕ → ℕ → List ℕ
-leftOf l t slots n p = printedFrom n (deskOf t slots) (records v01 (drop p l))
+abbrev pub leftOf : Version → List ℕ → Tables → List Session → ℕ → ℕ → List ℕ
+leftOf v l t slots n p = printedFrom n (deskOf t slots) (records v (drop p l))
 
-pub record ReplayLoop (l out₀ : List ℕ) (start : ℕ) (t : Tables) (slots : List Session) (n p at : ℕ) (out : List ℕ) : Type 0 where
+pub record ReplayLoop (v : Version) (l out₀ : List ℕ) (start : ℕ) (t : Tables) (slots : List Session) (n p at : ℕ) (out : List ℕ) : Type 0 where
   pub bytes : areBytes l ≡ true
   pub short : length l < 65536
   pub place : p ≤ length l
   pub count : n ≤ p
   pub held : DeskInvariant (deskOf t slots)
   pub size : length out ≡ length out₀
-  pub room : start + length (wholeOf l) ≤ length out₀
-  pub ends : at + length (leftOf l t slots n p) ≡ start + length (wholeOf l)
-  pub left : over at (leftOf l t slots n p) out ≡ over start (wholeOf l) out₀
-  pub desk : run (records v01 (drop p l) .calls) (deskOf t slots) ≡ run (records v01 l .calls) (freshDesk programRate)
+  pub room : start + length (wholeOf v l) ≤ length out₀
+  pub ends : at + length (leftOf v l t slots n p) ≡ start + length (wholeOf v l)
+  pub left : over at (leftOf v l t slots n p) out ≡ over start (wholeOf v l) out₀
+  pub desk : run (records v (drop p l) .calls) (deskOf t slots) ≡ run (records v l .calls) (freshDesk programRate)
 
 -- a record of the group g, with the fields r and the bytes b, is answered with a; and it leaves the tables t′ and the slots′
 pub record Answered (g : Group) (r : Record) (b : List ℕ) (t : Tables) (slots : List Session) (a : Answer) : Type 0 where
@@ -67,9 +68,9 @@ pub record Carried (g : Group) (r : Record) (b : List ℕ) (t : Tables) (slots :
   pub stands : isRecord g ≡ true
   pub same : record { answer = a; desk = deskOf t′ slots′ } ≡ rule (callAt v01 r b) (deskOf t slots)
 
-module _ (l out₀ : List ℕ) (start : ℕ) where
+module _ (v : Version) (l out₀ : List ℕ) (start : ℕ) where
   pub replay-start : (t : Tables) (s : Session) → t ≡ freshTables programRate → s ≡ freshSession → areBytes l ≡ true → length l < 65536
-      → start + length (wholeOf l) ≤ length out₀ → ReplayLoop l out₀ start t (replicate 4 s) 0 0 start out₀
+      → start + length (wholeOf v l) ≤ length out₀ → ReplayLoop v l out₀ start t (replicate 4 s) 0 0 start out₀
   replay-start t s et es b h k =
       rw (et, es)
       (record {
@@ -85,7 +86,7 @@ module _ (l out₀ : List ℕ) (start : ℕ) where
         desk = refl;
       })
 
-  module _ (t : Tables) (slots : List Session) (n p at : ℕ) (out : List ℕ) (h : ReplayLoop l out₀ start t slots n p at out) where
+  module _ (t : Tables) (slots : List Session) (n p at : ℕ) (out : List ℕ) (h : ReplayLoop v l out₀ start t slots n p at out) where
     pub count-fits : Fits w64 (n + 1)
     count-fits = record { fits = omega (arith, h .count, h .place, h .short) }
 
@@ -93,15 +94,15 @@ module _ (l out₀ : List ℕ) (start : ℕ) where
     counted = omega arith
 
     -- the last line, where no record is left
-    module _ (e : Ending) (f : records v01 (drop p l) ≡ record { calls = []; ending = e }) where
-      at-last : leftOf l t slots n p ≡ lastLine n e
+    module _ (e : Ending) (f : records v (drop p l) ≡ record { calls = []; ending = e }) where
+      at-last : leftOf v l t slots n p ≡ lastLine n e
       at-last = ap (printedFrom n (deskOf t slots)) f ∙ from-last n (deskOf t slots) e
 
       last-room : at + length (lastLine n e) ≤ length out
       last-room = rw (← at-last) (omega (arith, h .ends, h .room, h .size))
 
       last-replays : (len : ℕ) (out′ : List ℕ) (r : Replayed) → Wrote at (lastLine n e) out len out′ → r ≡ record { number = 0; len = len; desk = deskOf t slots }
-          → Replays start (records v01 l) out₀ r out′
+          → Replays start (records v l) out₀ r out′
       unfolding run
       last-replays len out′ r w er =
           rw er
@@ -112,9 +113,9 @@ module _ (l out₀ : List ℕ) (start : ℕ) where
           })
 
     -- x stands at p
-    module _ (x : Item) (e : StandsAt l p x) where
+    module _ (x : Item) (e : StandsAt v l p x) where
       in-journal : Within l p (x .after)
-      in-journal = item-within l (h .bytes) p x (e .same) (h .place)
+      in-journal = item-within v l (h .bytes) p x (e .same) (h .place)
 
       pub item-least : p ≤ x .after
       item-least = in-journal .least
@@ -124,31 +125,31 @@ module _ (l out₀ : List ℕ) (start : ℕ) where
 
       -- and is the end: n was counted once more
       module _ (w : x .group ≡ group.End) where
-        at-end : records v01 (drop p l) ≡ ended
-        at-end = item-end l (h .bytes) p x (e .same) w
+        at-end : records v (drop p l) ≡ ended
+        at-end = item-end v l (h .bytes) p x (e .same) w
 
         pub end-room : at + length (lastLine (n + 1 - 1) end) ≤ length out
         end-room = rw counted (last-room end at-end)
 
         pub end-replays : (len : ℕ) (out′ : List ℕ) (r : Replayed) → Wrote at (lastLine (n + 1 - 1) end) out len out′
-            → r ≡ record { number = 0; len = len; desk = deskOf t slots } → Replays start (records v01 l) out₀ r out′
+            → r ≡ record { number = 0; len = len; desk = deskOf t slots } → Replays start (records v l) out₀ r out′
         end-replays len out′ r f = last-replays end at-end len out′ r (rw counted at f)
 
       -- and is a fault
       module _ (number : ℕ) (w : x .group ≡ group.Stop number) where
-        at-stop : records v01 (drop p l) ≡ stopped number
-        at-stop = item-stop l (h .bytes) p x (e .same) number w
+        at-stop : records v (drop p l) ≡ stopped number
+        at-stop = item-stop v l (h .bytes) p x (e .same) number w
 
         pub stop-room : at + length (lastLine (n + 1 - 1) (stop number)) ≤ length out
         stop-room = rw counted (last-room (stop number) at-stop)
 
         pub stop-replays : (len : ℕ) (out′ : List ℕ) (r : Replayed) → Wrote at (lastLine (n + 1 - 1) (stop number)) out len out′
-            → r ≡ record { number = 0; len = len; desk = deskOf t slots } → Replays start (records v01 l) out₀ r out′
+            → r ≡ record { number = 0; len = len; desk = deskOf t slots } → Replays start (records v l) out₀ r out′
         stop-replays len out′ r f = last-replays (stop number) at-stop len out′ r (rw counted at f)
 
       -- and is a record
-      record-at : isRecord (x .group) ≡ true → RecordAt l p x
-      record-at w = item-record l (h .bytes) p x (e .same) (h .place) w
+      record-at : isRecord (x .group) ≡ true → RecordAt v l p x
+      record-at w = item-record v l (h .bytes) p x (e .same) (h .place) w
 
       pub fewer-left : isRecord (x .group) ≡ true → length l - x .after < length l - p
       fewer-left w = omega (arith, record-at w .least, item-most)
@@ -159,18 +160,18 @@ module _ (l out₀ : List ℕ) (start : ℕ) where
         call = callAt v01 (x .fields) b
 
         abbrev rest : Contents
-        rest = records v01 (drop (x .after) l)
+        rest = records v (drop (x .after) l)
 
         abbrev here : Desk
         here = deskOf t slots
 
-        stands : isRecord (x .group) ≡ true → records v01 (drop p l) ≡ after call rest
+        stands : isRecord (x .group) ≡ true → records v (drop p l) ≡ after call rest
         stands w = rw (eb .same) (record-at w .left)
 
         by-rule : step call here ≡ rule call here
         by-rule = answered call here (h .held)
 
-        printed : isRecord (x .group) ≡ true → leftOf l t slots n p ≡ recordLine (n + 1) (step call here .answer) ++ printedFrom (n + 1) (step call here .desk) rest
+        printed : isRecord (x .group) ≡ true → leftOf v l t slots n p ≡ recordLine (n + 1) (step call here .answer) ++ printedFrom (n + 1) (step call here .desk) rest
         printed w = ap (printedFrom n here) (stands w) ∙ from-call n here call rest
 
         -- answered: its line comes first in what is left
@@ -190,25 +191,25 @@ module _ (l out₀ : List ℕ) (start : ℕ) where
           line = recordLine (n + 1) a
 
           abbrev later : List ℕ
-          later = leftOf l t′ slots′ (n + 1) (x .after)
+          later = leftOf v l t′ slots′ (n + 1) (x .after)
 
-          left-is : leftOf l t slots n p ≡ line ++ later
+          left-is : leftOf v l t slots n p ≡ line ++ later
           left-is = rw stepped at (printed (c .stands))
 
-          desk-is : run (rest .calls) (deskOf t′ slots′) ≡ run (records v01 l .calls) (freshDesk programRate)
+          desk-is : run (rest .calls) (deskOf t′ slots′) ≡ run (records v l .calls) (freshDesk programRate)
           unfolding run
           desk-is =
               ap (λ (o : Outcome). run (rest .calls) (o .desk)) (sym stepped)
               ∙ sym (ap (λ (k : Contents). run (k .calls) here) (stands (c .stands)))
               ∙ h .desk
 
-          both : length (leftOf l t slots n p) ≡ length line + length later
+          both : length (leftOf v l t slots n p) ≡ length line + length later
           both = ap length left-is ∙ length-append line later
 
           within : at + length line ≤ length out
           within = omega (arith, both, h .ends, h .room, h .size)
 
-          pub replay-step : (at′ : ℕ) (out′ : List ℕ) → Wrote at line out at′ out′ → ReplayLoop l out₀ start t′ slots′ (n + 1) (x .after) at′ out′
+          pub replay-step : (at′ : ℕ) (out′ : List ℕ) → Wrote at line out at′ out′ → ReplayLoop v l out₀ start t′ slots′ (n + 1) (x .after) at′ out′
           replay-step at′ out′ f =
               record {
                 bytes = h .bytes;
@@ -233,7 +234,7 @@ module _ (l out₀ : List ℕ) (start : ℕ) where
       plain-room a c = line-room bytes-of (record { same = refl }) a c
 
       pub plain-step : (a : Answer) (t′ : Tables) (slots′ : List Session) → Carried (x .group) (x .fields) bytes-of t slots a t′ slots′ → (at′ : ℕ) (out′ : List ℕ)
-          → Wrote at (recordLine (n + 1) a) out at′ out′ → ReplayLoop l out₀ start t′ slots′ (n + 1) (x .after) at′ out′
+          → Wrote at (recordLine (n + 1) a) out at′ out′ → ReplayLoop v l out₀ start t′ slots′ (n + 1) (x .after) at′ out′
       plain-step a t′ slots′ c at′ out′ f = replay-step bytes-of (record { same = refl }) a t′ slots′ c at′ out′ f
 
 pub ruleset ends = (end-room, end-replays)

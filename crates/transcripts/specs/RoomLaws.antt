@@ -19,9 +19,10 @@ use Rattle.rules.specs.Laws.StaysSound.{DeskInvariant}
 use Rattle.rules.specs.Laws.Reached.{call-keeps}
 use Rattle.rules.specs.Laws.FreshSound.{fresh-holds}
 use Rattle.journal.specs.Fields.{Decoded, nothing, found}
-use Rattle.journal.specs.Records.{v01, parse, readRecord}
+use Rattle.journal.specs.declared.Version.{Version}
+use Rattle.journal.specs.Records.{parse, readRecord}
 use Rattle.journal.specs.Places.{RECORD}
-use Rattle.journal.specs.Journal.{journalMost, TOO-LARGE, VERSION, framed, stopped, onCall, onFrame, recordsIn, records, onVersion, versioned, contents}
+use Rattle.journal.specs.Journal.{journalMost, TOO-LARGE, VERSION, framed, stopped, onCall, onFrame, recordsIn, records, onVersion, versionNumbered, versioned, contents}
 use Rattle.journal.specs.JournalLaws.{records-step}
 use Rattle.journal_calls.specs.NextLaws.{apart}
 use Rattle.transcripts.specs.Transcript.{firstLine, recordLine, programRate, transcript}
@@ -36,10 +37,10 @@ unfolding step
 answered c d i = rw (i .passes)
 
 -- a record that stands for a call has 3 bytes or more with its length
-some-body : (body : List ℕ) (c : Call) → readRecord v01 body ≡ some c → 1 ≤ length body
+some-body : (v : Version) (body : List ℕ) (c : Call) → readRecord v body ≡ some c → 1 ≤ length body
 unfolding readRecord parse
-some-body [] c e = absurd (let z : _≡_ {A = ℕ} 0 1 = cc in omega arith)
-some-body (b ∷ l) c e = omega arith
+some-body v [] c e = absurd (let z : _≡_ {A = ℕ} 0 1 = cc in omega arith)
+some-body v (b ∷ l) c e = omega arith
 
 -- so many bytes for the records of l and the last line
 abbrev most : List ℕ → ℕ
@@ -53,40 +54,40 @@ stop-fits : (n k : ℕ) (d : Desk) (l : List ℕ) → Fits n l → k < 100 → l
 stop-fits n k d l h m = rw (from-stop n d k) (omega (arith, stop-most n k (omega arith) m))
 
 -- what is still to be printed of the records of l fits
-abbrev RecordsFit : List ℕ → Type 0
-RecordsFit l = areBytes l ≡ true → (n : ℕ) (d : Desk) → DeskInvariant d → Fits n l → length (printedFrom n d (records v01 l)) ≤ most l
+abbrev RecordsFit : Version → List ℕ → Type 0
+RecordsFit v l = areBytes l ≡ true → (n : ℕ) (d : Desk) → DeskInvariant d → Fits n l → length (printedFrom n d (records v l)) ≤ most l
 
 -- the first record, where those after it fit
-module _ (l : List ℕ) (h : areBytes l ≡ true) (n : ℕ) (d : Desk) (i : DeskInvariant d) (f : Fits n l)
-    (others : (rest : List ℕ) → length rest < length l → RecordsFit rest) where
-  call-fits : (body rest : List ℕ) → framed l ≡ found body rest → (o : Option Call) → readRecord v01 body ≡ o
-      → length (printedFrom n d (onCall o (records v01 rest))) ≤ most l
+module _ (v : Version) (l : List ℕ) (h : areBytes l ≡ true) (n : ℕ) (d : Desk) (i : DeskInvariant d) (f : Fits n l)
+    (others : (rest : List ℕ) → length rest < length l → RecordsFit v rest) where
+  call-fits : (body rest : List ℕ) → framed l ≡ found body rest → (o : Option Call) → readRecord v body ≡ o
+      → length (printedFrom n d (onCall o (records v rest))) ≤ most l
   call-fits body rest e none r = stop-fits n RECORD d l f (lit< tt)
   call-fits body rest e (some c) r =
       let a = apart l body rest h e in
-      let w = some-body body c r in
+      let w = some-body v body c r in
       let z : Small (step c d .answer) = rw (answered c d i) (small-answer c d (i .passes)) in
       let line = recordLine (n + 1) (step c d .answer) in
       let p = line-most (n + 1) (step c d .answer) (omega (arith, a .size)) (z .number) (z .value) in
       let q = others rest (omega (arith, a .size)) (a .bytes) (n + 1) (step c d .desk) (call-keeps c d i) (omega (arith, a .size)) in
-      rw (from-call n d c (records v01 rest), length-append line (printedFrom (n + 1) (step c d .desk) (records v01 rest))) (omega (arith, a .size, p, q))
+      rw (from-call n d c (records v rest), length-append line (printedFrom (n + 1) (step c d .desk) (records v rest))) (omega (arith, a .size, p, q))
 
-  frame-fits : (x : Decoded (List ℕ)) → framed l ≡ x → length (printedFrom n d (onFrame v01 (records v01) x)) ≤ most l
+  frame-fits : (x : Decoded (List ℕ)) → framed l ≡ x → length (printedFrom n d (onFrame v (records v) x)) ≤ most l
   frame-fits nothing e = stop-fits n RECORD d l f (lit< tt)
-  frame-fits (found body rest) e = call-fits body rest e (readRecord v01 body) refl
+  frame-fits (found body rest) e = call-fits body rest e (readRecord v body) refl
 
 -- no record
-none-fit : RecordsFit []
+none-fit : (v : Version) → RecordsFit v []
 unfolding recordsIn
-none-fit h n d i f = rw (from-end n d) (omega (arith, end-most n (omega arith)))
+none-fit v h n d i f = rw (from-end n d) (omega (arith, end-most n (omega arith)))
 
-records-fit : (k : ℕ) (l : List ℕ) → length l ≤ k → RecordsFit l
-records-fit zero [] s = none-fit
-records-fit zero (b ∷ l) s = absurd (omega arith)
-records-fit (suc k) [] s = none-fit
-records-fit (suc k) (b ∷ l) s =
+records-fit : (v : Version) (k : ℕ) (l : List ℕ) → length l ≤ k → RecordsFit v l
+records-fit v zero [] s = none-fit v
+records-fit v zero (b ∷ l) s = absurd (omega arith)
+records-fit v (suc k) [] s = none-fit v
+records-fit v (suc k) (b ∷ l) s =
     λ h n d i f.
-    rw (records-step v01 b l) (frame-fits (b ∷ l) h n d i f (λ rest q. records-fit k rest (omega arith)) (framed (b ∷ l)) refl)
+    rw (records-step v b l) (frame-fits v (b ∷ l) h n d i f (λ rest q. records-fit v k rest (omega arith)) (framed (b ∷ l)) refl)
 
 -- from the first line on
 contents-fit : (l : List ℕ) → areBytes l ≡ true → length (printedFrom 0 (freshDesk programRate) (contents l)) ≤ 14 + 10 * min (length l) journalMost
@@ -96,14 +97,14 @@ contents-fit l h = on-size (ltb journalMost (length l)) refl
     stops : (k : ℕ) → k < 100 → length (printedFrom 0 (freshDesk programRate) (stopped k)) ≤ 14 + 10 * min (length l) journalMost
     stops k m = omega (arith, stop-fits 0 k (freshDesk programRate) [] (lit< tt) m)
 
-    on-byte : (b : ℕ) (m : List ℕ) → areBytes (b ∷ m) ≡ true → length (b ∷ m) ≤ journalMost → (t : Bool)
-        → length (printedFrom 0 (freshDesk programRate) (onVersion (cond t (some v01) none) m)) ≤ 14 + 10 * length (b ∷ m)
-    on-byte b m h s true = omega (arith, records-fit (length m) m (omega arith) (and-right (ltb b 256) (areBytes m) h) 0 (freshDesk programRate) (fresh-holds programRate) (omega arith))
-    on-byte b m h s false = omega (arith, stop-fits 0 VERSION (freshDesk programRate) [] (lit< tt) (lit< tt))
+    on-byte : (b : ℕ) (m : List ℕ) → areBytes (b ∷ m) ≡ true → length (b ∷ m) ≤ journalMost → (o : Option Version)
+        → length (printedFrom 0 (freshDesk programRate) (onVersion o m)) ≤ 14 + 10 * length (b ∷ m)
+    on-byte b m h s (some v) = omega (arith, records-fit v (length m) m (omega arith) (and-right (ltb b 256) (areBytes m) h) 0 (freshDesk programRate) (fresh-holds programRate) (omega arith))
+    on-byte b m h s none = omega (arith, stop-fits 0 VERSION (freshDesk programRate) [] (lit< tt) (lit< tt))
 
     read : (m : List ℕ) → areBytes m ≡ true → length m ≤ journalMost → length (printedFrom 0 (freshDesk programRate) (versioned m)) ≤ 14 + 10 * length m
     read [] h s = stop-fits 0 VERSION (freshDesk programRate) [] (lit< tt) (lit< tt)
-    read (b ∷ m) h s = on-byte b m h s (eqb b 0x01)
+    read (b ∷ m) h s = on-byte b m h s (versionNumbered b)
 
     on-size : (t : Bool) → ltb journalMost (length l) ≡ t
         → length (printedFrom 0 (freshDesk programRate) (cond t (stopped TOO-LARGE) (versioned l))) ≤ 14 + 10 * min (length l) journalMost

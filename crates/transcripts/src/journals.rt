@@ -9,8 +9,9 @@ use super::lines::put_first_line;
 use super::lines::put_stop_line;
 use super::records::RATE;
 use super::records::replay_records;
+use journal::Start;
 use journal::Written;
-use journal::start_fault;
+use journal::start_of;
 use rules::numbers::ROOM;
 
 // The most bytes of a journal whose records are read.
@@ -44,11 +45,10 @@ pub fn replay(journal: &[u8], out: &mut [u8]) -> Replayed
         return without_calls(ROOM, 0);
     }
     let at = put_first_line(out, 0);
-    let fault = start_fault(journal);
-    if fault != 0 {
-        return without_calls(0, put_stop_line(out, at, 0, fault));
+    match start_of(journal) {
+        Start::Fault(number) => without_calls(0, put_stop_line(out, at, 0, number)),
+        Start::Records(v) => replay_records(v, &journal[1..], out, at),
     }
-    replay_records(&journal[1..], out, at)
 }
 
 // Writes the transcript of a journal at the start of a buffer, and gives its length; or refuses with 12, and leaves the buffer as

@@ -5,7 +5,6 @@ ghost use Prim.Native.Nat.{_+_, _<_, _≤_};
 ghost use lib.ListN.{length};
 ghost use lib.Pow.{areBytes};
 ghost use Rattle.rules.specs.Fresh.{freshDesk};
-ghost use Rattle.journal.specs.Records.{v01};
 ghost use Rattle.journal.specs.Journal.{records};
 ghost use Rattle.transcripts.specs.Parts.{deskOf};
 ghost use Rattle.transcripts.specs.Replay.{Replays};
@@ -17,6 +16,7 @@ use super::lines::put_record_line;
 use super::lines::put_stop_line;
 use epochs::collect_on;
 use epochs::pass_on;
+use journal::Version;
 use journal_calls::Group;
 use journal_calls::body_at;
 use journal_calls::commit_call;
@@ -55,9 +55,14 @@ fn done(len: usize, t: Tables, slots: [Session; 4]) -> Replayed
 // The records of a journal one after another, and the last line. The parts that a call gives back are stored in place. `n` is how many
 // records stand before `p`. The relays are a table by itself, and `t` has them where a call reads it: a row that is stored at a place in `t`
 // would have all of `t` copied for the calls that take it, and registers and heartbeats are many.
-pub(crate) fn replay_records(journal: &[u8], out: &mut [u8], start: usize) -> Replayed
-    requires { ⌜ (areBytes (now journal) ≡ true) × (length (now journal) < 65536) × (start + length (printedFrom 0 (freshDesk programRate) (records v01 (now journal))) ≤ length (now out)) ⌝ }
-    ensures { λ r. ⌜ Replays start (records v01 (now (journal .entry))) (now (out .entry)) r (now (out .exit)) ⌝ }
+pub(crate) fn replay_records(
+    v: Version,
+    journal: &[u8],
+    out: &mut [u8],
+    start: usize,
+) -> Replayed
+    requires { ⌜ (areBytes (now journal) ≡ true) × (length (now journal) < 65536) × (start + length (printedFrom 0 (freshDesk programRate) (records v (now journal))) ≤ length (now out)) ⌝ }
+    ensures { λ r. ⌜ Replays start (records v (now (journal .entry))) (now (out .entry)) r (now (out .exit)) ⌝ }
 {
     let mut t = rules::fresh_tables(RATE);
     let session = rules::fresh_session();
@@ -67,7 +72,7 @@ pub(crate) fn replay_records(journal: &[u8], out: &mut [u8], start: usize) -> Re
     let mut at = start;
     let mut relays = t.relays;
     loop {
-        let item = item_at(journal, p);
+        let item = item_at(v, journal, p);
         let group = item.group;
         let from = p;
         p = item.after;

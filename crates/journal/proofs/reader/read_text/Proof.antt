@@ -9,12 +9,14 @@ read-text-spec =
     tie.close
     (tie.spec
     (λ c κs. search needs)
+    (λ c κs. search needs)
     (λ c. search needs)
     (λ c. search needs)
     (λ c. search refusals)  -- no length
+    (λ c κs. search needs)
     (λ c. search refusals)  -- too long
-    (λ c. search needs)
+    (λ c. search within)
     (λ c. search within)
     (λ c. search refusals)  -- cut
-    (λ c. search needs)
+    (λ c. search within)
     (λ c. search text-read))  -- there

@@ -9,8 +9,8 @@ pub read-fields-spec : {M : Type 1} → statement M
 read-fields-spec =
     tie.close
     (tie.spec
-    (λ body fields count r₀ at₀ i₀ r at i. ReadLoop body r₀ fields count r at i)
-    (λ body fields count r₀ at₀ i₀ r at i. count - i)
+    (λ v body fields count r₀ at₀ i₀ r at i. ReadLoop v body r₀ fields count r at i)
+    (λ v body fields count r₀ at₀ i₀ r at i. count - i)
     (λ c κs. search needs)
     (λ c κs. search needs)
     (λ c κs. search needs)

@@ -8,8 +8,8 @@ pub measure-spec : {M : Type 1} → statement M
 measure-spec =
     tie.close
     (tie.spec
-    (λ d text fields count n₀ i₀ n i. SizeLoop fields count d text n i)
-    (λ d text fields count n₀ i₀ n i. count - i)
+    (λ v d text fields count n₀ i₀ n i. SizeLoop v fields count d text n i)
+    (λ v d text fields count n₀ i₀ n i. count - i)
     (λ c κs. search measures)
     (λ c κs. search measures)
     (λ c. search measures)

@@ -8,8 +8,8 @@ pub put-fields-spec : {M : Type 1} → statement M
 put-fields-spec =
     tie.close
     (tie.spec
-    (λ out₀ start d text fields count at₀ i₀ out at i. PutLoop out₀ start d text fields count out at i)
-    (λ out₀ start d text fields count at₀ i₀ out at i. count - i)
+    (λ v out₀ start d text fields count at₀ i₀ out at i. PutLoop v out₀ start d text fields count out at i)
+    (λ v out₀ start d text fields count at₀ i₀ out at i. count - i)
     (λ c κs. search puts)
     (λ c κs. search puts)
     (λ c. search puts)

@@ -13,13 +13,15 @@ replay-spec =
     (λ c. search short)  -- ROOM
     (λ c κs. search first-room)
     (λ c κs. search needs)
+    (λ c. search needs)
     (λ c κs. search fault)
     (λ c κs. search needs)
     (λ c. search needs)
-    (λ c. search fault)  -- stop
     (λ c. search (some-there, needs))
     (λ c. search (some-there, needs))
     (λ c. search needs)
     (λ c κs. search read)
+    (λ c. search needs)
+    (λ c. search fault)  -- stop
     (λ c. search needs)
     (λ c. search read))

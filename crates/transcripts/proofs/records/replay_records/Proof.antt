@@ -13,8 +13,8 @@ pub replay-records-spec : {M : Type 1} → statement M
 replay-records-spec =
     tie.close
     (tie.spec
-    (λ journal out₀ start t₀ slots₀ n₀ p₀ at₀ relays₀ out t slots n p at relays. ReplayLoop journal out₀ start (withRelays t relays) slots n p at out)
-    (λ journal out₀ start t₀ slots₀ n₀ p₀ at₀ relays₀ out t slots n p at relays. length journal - p)
+    (λ v journal out₀ start t₀ slots₀ n₀ p₀ at₀ relays₀ out t slots n p at relays. ReplayLoop v journal out₀ start (withRelays t relays) slots n p at out)
+    (λ v journal out₀ start t₀ slots₀ n₀ p₀ at₀ relays₀ out t slots n p at relays. length journal - p)
     (λ c κs. search needs)
     (λ c κs. search needs)
     (λ c. search (replay-start, needs))

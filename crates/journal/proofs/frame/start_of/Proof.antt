@@ -1,11 +1,11 @@
--- `start_fault` meets its contract: each return is that of its test. Assumes nothing.
+-- `start_of` meets its contract: each return is that of its test. Assumes nothing.
 use Rattle.journal.proofs.FrameLaws.{start-faults}
 use borrow.Author.Needs.{needs}
-use Rattle.journal.proofs.frame.start_fault.Statement.{statement}
-use Rattle.journal.proofs.frame.start_fault.Tie as tie
+use Rattle.journal.proofs.frame.start_of.Statement.{statement}
+use Rattle.journal.proofs.frame.start_of.Tie as tie
 
-pub start-fault-spec : {M : Type 1} → statement M
-start-fault-spec =
+pub start-of-spec : {M : Type 1} → statement M
+start-of-spec =
     tie.close
     (tie.spec
     (λ c. search start-faults)  -- TOO_LARGE

@@ -1,0 +1,8 @@
+-- `reader::text_width` meets its contract: there is one version. Assumes nothing.
+use borrow.Author.Needs.{needs}
+use Rattle.journal.specs.VersionLaws.{first-width}
+use Rattle.journal.proofs.reader.text_width.Statement.{statement}
+use Rattle.journal.proofs.reader.text_width.Tie as tie
+
+pub text-width-spec : {M : Type 1} → statement M
+text-width-spec = tie.close (tie.spec (λ c. search (first-width, needs)))
