@@ -14,7 +14,6 @@ use Rattle.lists.specs.BoolLaws.{and-left, and-right, not-both}
 use Rattle.lists.specs.SearchLaws.{first-row, first-miss}
 use Rattle.lists.specs.AnswerLaws.{NoRow, AtRow, no-row, at-row, some-given}
 use Rattle.rules.specs.declared.VolumeNo.{VolumeNo}
-use Rattle.rules.specs.declared.TokenNo.{TokenNo}
 use Rattle.rules.specs.declared.Placement.{Placement}
 use Rattle.rules.specs.declared.Volume.{Volume}
 use Rattle.rules.specs.declared.Entry.{Entry}
@@ -28,7 +27,7 @@ use Rattle.rules.specs.Tables.{staged, isVolume, isToken, volumeOf, tokenOf}
 use Rattle.rules.specs.Scope.{family}
 use Rattle.rules.specs.Outcome.{slotRefused}
 use Rattle.rules.specs.Commit.{stagedBytes, placeAll}
-use Rattle.rows.specs.Blank.{blankVolume, blankToken}
+use Rattle.rows.specs.Blank.{blankVolume}
 use Rattle.commits.specs.declared.CommitOutcome.{CommitOutcome}
 use Rattle.commits.specs.declared.Verdict.{Verdict}
 use Rattle.commits.specs.Parts.{onCommit}
@@ -37,9 +36,9 @@ use Rattle.commits.specs.Within.{inLimits, commitWithin}
 use Rattle.commits.specs.Stored.{placedBy, StoredBy}
 use Rattle.commits.specs.Verdicts.{noPlan, Judged, JudgedIn, judged-refusal}
 use Rattle.rows.specs.Links.{rowIf}
-use Rattle.commits.specs.Early.{earlyToken, earlyVolume}
 use Rattle.surveys.specs.Survey.{Surveyed}
-use Rattle.commits.specs.Checks.{tokenFault, limitsFault, rowsFault, faultAt, faultBy, rowsNumber, Ready, PlacedIf, RowsIf}
+use Rattle.first_checks.specs.Early.{tokenFault}
+use Rattle.commits.specs.Checks.{limitsFault, rowsFault, faultAt, faultBy, rowsNumber, Ready, PlacedIf, RowsIf}
 use Rattle.commits.specs.CommitSteps.{kept-ok, relays-ok, volumes-ok, session-ok, puts-ok, count-ok, shards-found, parts-stopped, parts-told, parts-token, parts-stored, idle-stopped}
 
 -- in the function of all checks: r said that their sums fit
@@ -237,17 +236,3 @@ module _ (t : Tables) (s : Session) (x : Verdict) (j : JudgedIn (t .clock) (t .r
 
   pub verdict-stored : x .number ≡ 0 → (o : CommitOutcome) → StoredBy t s (x .plan) o → v ≡ onCommit t o → v ≡ commitWithin t s
   verdict-stored z o h q = q ∙ verdict .stored z o h
-
--- the first checks: no volume, or at its row; and so for the token
-module _ (clock : ℕ) (s : Session) where
-  pub early-volume-none : (tokens : List Token) (n : VolumeNo) (volumes : List Volume) → NoRow (earlyVolume clock tokens s) (isVolume n) volumes
-  early-volume-none tokens n volumes = no-row (earlyVolume clock tokens s) _ _
-
-  pub early-volume-at : (tokens : List Token) (n : VolumeNo) (volumes : List Volume) → AtRow (earlyVolume clock tokens s) (isVolume n) volumes blankVolume
-  early-volume-at tokens n volumes = at-row (earlyVolume clock tokens s) _ _ _
-
-  pub early-token-none : (v : Volume) (n : TokenNo) (tokens : List Token) → NoRow (earlyToken clock s v) (isToken n) tokens
-  early-token-none v n tokens = no-row (earlyToken clock s v) _ _
-
-  pub early-token-at : (v : Volume) (n : TokenNo) (tokens : List Token) → AtRow (earlyToken clock s v) (isToken n) tokens blankToken
-  early-token-at v n tokens = at-row (earlyToken clock s v) _ _ _

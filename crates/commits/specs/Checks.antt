@@ -4,7 +4,7 @@ use mathlib.Core.Path.{_≡_}
 use mathlib.Core.Bool.{true, cond, not}
 use mathlib.Core.List.{List, [], _∷_}
 use Prim.Native.Nat.{ℕ, _+_, _≤_}
-use lib.Dec.{eqb, leb, ltb}
+use lib.Dec.{eqb, ltb}
 use lib.ListN.{getD}
 use Rattle.lists.specs.Lists.{Hit, miss, hit, find, allOf, anyOf}
 use Rattle.rules.specs.declared.Placement.{Placement}
@@ -12,23 +12,16 @@ use Rattle.rules.specs.declared.Volume.{Volume}
 use Rattle.rules.specs.declared.Token.{Token}
 use Rattle.rules.specs.declared.Relay.{Relay}
 use Rattle.rules.specs.declared.Session.{Session}
-use Rattle.rules.specs.Limits.{putRows, entryRows, lastVersion}
-use Rattle.rules.specs.Numbers.{BAD, NO-VOLUME, NO-TOKEN, WINDOW, STATE, CONFLICT, SPENT, QUOTA, SIZE, ROOM, RENT, NO-PLACE}
+use Rattle.rules.specs.Limits.{putRows, entryRows}
+use Rattle.rules.specs.Numbers.{BAD, NO-VOLUME, NO-TOKEN, QUOTA, SIZE, ROOM, RENT, NO-PLACE}
 use Rattle.rules.specs.Tables.{staged, isVolume}
-use Rattle.rules.specs.Scope.{inWindow, passesCap, passesQuota, family}
+use Rattle.rules.specs.Scope.{passesCap, passesQuota, family}
 use Rattle.rules.specs.Sound.{shardsFit}
 use Rattle.rules.specs.Rent.{rentFor}
-use Rattle.rules.specs.VolumeCalls.{isActive}
 use Rattle.rules.specs.Commit.{Placed, noPlace, placed, stagedBytes, placeAll}
 use Rattle.rows.specs.Blank.{blankVolume}
+use Rattle.first_checks.specs.Early.{tokenFault}
 use Rattle.surveys.specs.RowLimits.{relayWithin, putWithin, canCheck}
-
--- 5: "clock outside the token's window"; 8: "status doesn't allow the call"; 9: "volume's version isn't the one at opening"; 21: the version has
--- reached its end
-unfoldable pub tokenFault : ℕ → Volume → ℕ → Token → ℕ
-tokenFault clock v version k =
-    cond (not (inWindow clock (k .scope))) WINDOW
-    (cond (not (isActive (v .status))) STATE (cond (not (eqb (v .version) version)) CONFLICT (cond (leb lastVersion (v .version)) SPENT 0)))
 
 -- 10, 11, 12, 13, where `ks` are the token and its ancestors, `bytes` the staged sizes, `kept` the bytes of the volume's entries that stay, and `rows`
 -- the entries in use with those that the puts add

@@ -38,7 +38,8 @@ use Rattle.commits.specs.Within.{inLimits, commitWithin}
 use Rattle.surveys.specs.Survey.{keptBytes, Surveyed}
 use Rattle.commits.specs.Stored.{StoredAs, StoredBy}
 use Rattle.rows.specs.Links.{rowIf}
-use Rattle.commits.specs.Checks.{tokenFault, limitsFault, orElse, placeFault, placingOf, rowsFault, faultAt, faultBy, rowsNumber, RowsIf}
+use Rattle.first_checks.specs.Early.{tokenFault}
+use Rattle.commits.specs.Checks.{limitsFault, orElse, placeFault, placingOf, rowsFault, faultAt, faultBy, rowsNumber, RowsIf}
 use Rattle.commits.specs.CommitSums.{size-passes, rent-passes, staged-small}
 
 -- the answer by a number: the refusal with it, or the rest where it is 0

@@ -7,4 +7,3 @@ pub mod Verdicts
 pub mod WithinLaws
 pub mod CommitSums
 pub mod CommitSteps
-pub mod Early

@@ -4,13 +4,10 @@ ghost use mathlib.Core.Path.{_≡_};
 ghost use mathlib.Core.Bool.{true};
 ghost use Prim.Native.Nat.{_*_, _<_, _≤_, _^_};
 ghost use lib.ListN.{getD, take};
-ghost use Rattle.lists.specs.Lists.{find};
-ghost use Rattle.rules.specs.Tables.{isToken};
 ghost use Rattle.rules.specs.Sound.{shardsFit};
 ghost use Rattle.rows.specs.Blank.{blankVolume};
 ghost use Rattle.rows.specs.Links.{rowIf};
-ghost use Rattle.commits.specs.Early.{earlyToken, earlyNumber};
-ghost use Rattle.commits.specs.Checks.{tokenFault, limitsFault, rowsFault, rowsNumber, Ready, PlacedIf, RowsIf};
+ghost use Rattle.commits.specs.Checks.{limitsFault, rowsFault, rowsNumber, Ready, PlacedIf, RowsIf};
 use super::family::Family;
 use super::family::family_of;
 use super::family::passes_cap;
@@ -20,28 +17,21 @@ use super::placings::no_places;
 use super::placings::place_all;
 use super::sizes::below_rent;
 use super::sizes::staged_bytes;
+use first_checks::token_fault;
 use lists::Found;
-use rows::find_token;
 use rows::find_volume;
-use rows::in_window;
-use rows::is_active;
 use rules::Relay;
 use rules::Session;
 use rules::Token;
 use rules::Volume;
 use rules::numbers::BAD;
-use rules::numbers::CONFLICT;
 use rules::numbers::NO_PLACE;
 use rules::numbers::NO_TOKEN;
 use rules::numbers::NO_VOLUME;
 use rules::numbers::QUOTA;
 use rules::numbers::RENT;
 use rules::numbers::ROOM;
-use rules::numbers::SESSION;
 use rules::numbers::SIZE;
-use rules::numbers::SPENT;
-use rules::numbers::STATE;
-use rules::numbers::WINDOW;
 use surveys::can_check;
 
 // What the checks of a running session's commit give: the number of the refusal, or 0; where it is 0, the row of the volume, and the placements.
@@ -69,55 +59,6 @@ fn unplaced(number: u32, relays: [Relay; 32]) -> Placing
 {
     let p = no_places(relays);
     Placing { number, p }
-}
-
-// The token's window, then the volume's status and version.
-fn token_fault(clock: u64, v: Volume, version: u32, k: Token) -> u32
-    ensures { λ r. ⌜ r ≡ tokenFault clock v version k ⌝ }
-{
-    let scope = k.scope;
-    if !in_window(clock, scope) {
-        return WINDOW;
-    }
-    let status = v.status;
-    if !is_active(status) {
-        return STATE;
-    }
-    if v.version != version {
-        return CONFLICT;
-    }
-    if 4294967295 <= v.version {
-        return SPENT;
-    }
-    0
-}
-
-// The token, then its window and the volume's status and version.
-fn early_token(clock: u64, tokens: [Token; 32], s: Session, v: Volume) -> u32
-    ensures { λ r. ⌜ r ≡ earlyToken clock s v (find (isToken (s .token)) tokens) ⌝ }
-{
-    let n = s.token;
-    let Found::At(j) = find_token(tokens, n) else {
-        return NO_TOKEN;
-    };
-    let k = tokens[j];
-    token_fault(clock, v, s.version, k)
-}
-
-// The first checks of a commit, which read neither the entries nor the relays: the number of the refusal, or 0. A caller that asks
-// first need not hand the other tables on for a commit that these refuse.
-pub fn early_refusal(clock: u64, volumes: [Volume; 8], tokens: [Token; 32], s: Session) -> u32
-    ensures { λ r. ⌜ r ≡ earlyNumber clock volumes tokens s ⌝ }
-{
-    if s.token.0 == 0 {
-        return SESSION;
-    }
-    let n = s.volume;
-    let Found::At(i) = find_volume(volumes, n) else {
-        return NO_VOLUME;
-    };
-    let v = volumes[i];
-    early_token(clock, tokens, s, v)
 }
 
 // The quotas of the token and its ancestors, the volume's cap, the number of entries, and the rent.

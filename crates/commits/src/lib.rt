@@ -9,7 +9,6 @@ mod family;
 mod placings;
 mod sizes;
 
-pub use checks::early_refusal;
 pub use commit::check_commit;
 pub use commit::commit_on;
 pub use commit::refusing;

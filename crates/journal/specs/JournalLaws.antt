@@ -1,5 +1,5 @@
 -- The law of a journal's records: one record, then the records of the rest. Assumes nothing.
-use mathlib.Core.Path.{_≡_, refl, _∙_, ap}
+use mathlib.Core.Path.{_≡_, refl, sym, _∙_, ap}
 use mathlib.Core.Bool.{Bool, true, false, cond}
 use mathlib.Core.List.{List, [], _∷_, _++_, append-assoc}
 use mathlib.Core.Option.{Option, none, some}
@@ -131,3 +131,17 @@ next-contents v (b ∷ l) h = records-step v b l ∙ by (framed (b ∷ l)) refl
     by : (d : Decoded (List ℕ)) → framed (b ∷ l) ≡ d → onFrame v (records v) d ≡ afterNext v (b ∷ l) (onBody v d)
     by nothing e = refl
     by (found body rest) e = read-next v (b ∷ l) body rest h e (readAt v body) refl
+
+-- the bytes of a record, and those after it
+pub record Apart (l body rest : List ℕ) : Type 0 where
+  pub size : length l ≡ 2 + length body + length rest
+  pub bytes : areBytes rest ≡ true
+
+pub apart : (l body rest : List ℕ) → areBytes l ≡ true → framed l ≡ found body rest → Apart l body rest
+unfolding encode
+apart l body rest h e =
+    let t = decode-taken (text 2 65535) l body rest h e in
+    record {
+      size = sym (ap length (t .whole)) ∙ length-append (bytesOf 2 (length body) ++ body) rest ∙ omega (arith, length-append (bytesOf 2 (length body)) body, length-bytesOf 2 (length body));
+      bytes = t .rest;
+    }

@@ -17,7 +17,7 @@ use Rattle.rules.specs.TokenCalls.{grantRule, attenuateRule, revokeRule, lookRu
 use Rattle.rules.specs.Calls.{askRule, workRule}
 use Rattle.commits.specs.declared.Verdict.{Verdict}
 use Rattle.commits.specs.Within.{commitWithin}
-use Rattle.commits.specs.Early.{earlyNumber}
+use Rattle.first_checks.specs.Early.{earlyNumber}
 use Rattle.commits.specs.Verdicts.{noPlan, JudgedIn, judged-refusal}
 use Rattle.relays.specs.declared.RelayChange.{RelayChange}
 use Rattle.relays.specs.Rows.{registerRow, heartbeatRow}

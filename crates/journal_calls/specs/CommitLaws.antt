@@ -8,7 +8,7 @@ use Rattle.rules.specs.declared.Session.{Session}
 use Rattle.rules.specs.declared.Tables.{Tables}
 use Rattle.rules.specs.Commit.{commitRule}
 use Rattle.commits.specs.Within.{commitWithin}
-use Rattle.commits.specs.Early.{earlyNumber, early-refused}
+use Rattle.first_checks.specs.Early.{earlyNumber, early-refused}
 use Rattle.journal_calls.specs.Parts.{earlyOr, commitEarly}
 
 pub early-rule : (t : Tables) (s : Session) → commitWithin t s ≡ commitRule t s → commitEarly t s ≡ commitRule t s

@@ -1,40 +1,25 @@
 -- What stands next in the records of a journal, as the code is told it: the end, a fault, or a whole record with so many bytes. Assumes nothing.
-use mathlib.Core.Path.{_≡_, refl, sym, _∙_, ap}
+use mathlib.Core.Path.{_≡_, refl, _∙_, ap}
 use mathlib.Core.Bool.{true}
-use mathlib.Core.List.{List, [], _∷_, _++_}
+use mathlib.Core.List.{List, [], _∷_}
 use Prim.Native.Nat.{ℕ, _+_, _-_, _≤_}
 use native.Mathlib.Omega.{arith}
 use lib.Pow.{areBytes}
-use lib.ListN.{length, take, drop, length-append}
+use lib.ListN.{length, take, drop}
 use lib.Seq.{drop-drop}
 use Rattle.journal.specs.declared.Record.{Record}
 use Rattle.journal.specs.declared.Reading.{Reading}
 use Rattle.journal.specs.declared.Reading.the-variants.{Fits, Refused}
 use Rattle.journal.specs.declared.Next.{Next}
 use Rattle.journal.specs.declared.Next.the-variants.{End, Whole, Stop}
-use Rattle.journal.specs.Numbers.{bytesOf}
-use Rattle.journal.specs.NumberLaws.{length-bytesOf}
-use Rattle.journal.specs.Fields.{Decoded, nothing, found, text, encode}
-use Rattle.journal.specs.FieldLaws.{bytes-drop, decode-taken}
+use Rattle.journal.specs.Fields.{Decoded, nothing, found}
+use Rattle.journal.specs.FieldLaws.{bytes-drop}
 use Rattle.journal.specs.declared.Version.{Version}
 use Rattle.journal.specs.Records.{parse}
 use Rattle.journal.specs.Places.{readAt, callAt}
 use Rattle.journal.specs.Journal.{stopped, ended, after, framed, records, onReading, onBody, nextIn, afterNext}
+use Rattle.journal.specs.JournalLaws.{apart}
 use Rattle.journal.specs.Theorems.{next-gives-the-contents}
-
--- the bytes of a record, and those after it
-pub record Apart (l body rest : List ℕ) : Type 0 where
-  pub size : length l ≡ 2 + length body + length rest
-  pub bytes : areBytes rest ≡ true
-
-pub apart : (l body rest : List ℕ) → areBytes l ≡ true → framed l ≡ found body rest → Apart l body rest
-unfolding encode
-apart l body rest h e =
-    let t = decode-taken (text 2 65535) l body rest h e in
-    record {
-      size = sym (ap length (t .whole)) ∙ length-append (bytesOf 2 (length body) ++ body) rest ∙ omega (arith, length-append (bytesOf 2 (length body)) body, length-bytesOf 2 (length body));
-      bytes = t .rest;
-    }
 
 -- a whole record has 3 bytes or more with its length, and they are there
 pub record Sized (l : List ℕ) (n : ℕ) : Type 0 where

@@ -11,7 +11,7 @@ use Rattle.rules.specs.declared.TablesOutcome.{TablesOutcome}
 use Rattle.rules.specs.declared.SlotOutcome.{SlotOutcome}
 use Rattle.rules.specs.Outcome.{slotRefused}
 use Rattle.rules.specs.Calls.{Ask, askRule}
-use Rattle.commits.specs.Early.{earlyNumber}
+use Rattle.first_checks.specs.Early.{earlyNumber}
 use Rattle.commits.specs.declared.Verdict.{Verdict}
 use Rattle.commits.specs.Within.{commitWithin}
 use Rattle.commits.specs.Verdicts.{Judged}

@@ -12,8 +12,8 @@ use Rattle.rules.specs.Numbers.{ROOM}
 use Rattle.rules.specs.Fresh.{freshDesk}
 use Rattle.journal.specs.declared.Written.{Written}
 use Rattle.transcripts.specs.declared.Replayed.{Replayed}
-use Rattle.transcripts.specs.Room.{roomFor}
-use Rattle.transcripts.specs.Transcript as printed
+use Rattle.printed.specs.Room.{roomFor}
+use Rattle.printed.specs.Transcript as printed
 use Rattle.transcripts.specs.Replay as replays
 use Rattle.transcripts.specs.Replay.{answerOf, bufferOf, deskAfter, replayedOf}
 use Rattle.desk_bytes.specs.Layout.{deskBytes, deskLength}

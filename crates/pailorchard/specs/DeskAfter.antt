@@ -6,9 +6,9 @@ use Prim.Native.Nat.{ℕ}
 use lib.Dec.{eqb, ltb}
 use lib.ListN.{length, drop}
 use Rattle.rules.specs.Numbers.{ROOM}
-use Rattle.transcripts.specs.Room.{roomFor}
+use Rattle.printed.specs.Room.{roomFor}
 use Rattle.transcripts.specs.Replay.{deskAfter}
-use Rattle.transcripts.specs.Transcript as printed
+use Rattle.printed.specs.Transcript as printed
 use Rattle.desk_bytes.specs.Layout.{deskBytes, deskLength}
 use Rattle.desk_bytes.specs.Writing as desks
 

@@ -8,7 +8,7 @@ ghost use Rattle.amount.specs.Writing.{writtenOf, writtenNumber, bufferAfter};
 ghost use Rattle.text.specs.Text.{isPath, isPrefix, isName};
 ghost use Rattle.rules.specs.Sound.{sound};
 ghost use Rattle.transcripts.specs.Replay.{answerOf, bufferOf, replayedOf};
-ghost use Rattle.transcripts.specs.Room.{roomFor};
+ghost use Rattle.printed.specs.Room.{roomFor};
 ghost use Rattle.desk_bytes.specs.Layout.{deskLength};
 ghost use Rattle.pailorchard.specs.DeskAfter.{deskNumber, transcriptLeft, deskLeft, lengthLeft, deskWhere};
 ghost use Rattle.pailorchard.specs.Results.{capOf, limitedAfter, bytesAfter, lengthAfter, writtenAfter, testsPassed};
@@ -105,7 +105,7 @@ pub extern "C" fn pailorchard_write_amount(
 pub extern "C" fn pailorchard_replay_room(journal: usize) -> usize
     ensures { λ r. ⌜ r ≡ roomFor journal ⌝ }
 {
-    transcripts::room_for(journal)
+    printed::room_for(journal)
 }
 
 // Replays a journal on a fresh desk: 0, with its transcript at the start of the buffer and the transcript's length; or 12.

@@ -8,7 +8,7 @@ use lib.ListN.{length, take, drop, length-append}
 use lib.Seq.{length-take-le}
 use Rattle.journal.specs.declared.Written.{Written}
 use Rattle.rules.specs.Numbers.{ROOM}
-use Rattle.transcripts.specs.Transcript.{transcript}
+use Rattle.printed.specs.Transcript.{transcript}
 use Rattle.transcripts.specs.Replay.{tooShort, answerOf, bufferOf}
 
 -- the first n bytes are n

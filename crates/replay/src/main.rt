@@ -80,7 +80,7 @@ fn journal_buffer() -> [u8; 65537]
     [0; 65537]
 }
 
-// Enough for the transcript of any journal (transcripts::room_for).
+// Enough for the transcript of any journal (printed::room_for).
 fn transcript_buffer() -> [u8; 655381]
     ensures { λ r. ⌜ 655381 ≡ length r ⌝ }
 {

@@ -3,8 +3,8 @@
 use mathlib.Core.Path.{_≡_, refl, sym, _∙_, ap}
 use mathlib.Core.Bool.{Bool, true, false, cond}
 use mathlib.Core.List.{List, [], _∷_, _++_}
-use Prim.Native.Nat.{ℕ, zero, suc, _+_, _-_, _*_, _<_, _≤_}
-use native.Mathlib.Nat.{zero-add, min-eq-left, min-eq-right}
+use Prim.Native.Nat.{ℕ, _+_, _-_, _<_, _≤_}
+use native.Mathlib.Nat.{zero-add}
 use native.Mathlib.Omega.{arith}
 use borrow.Author.Tests.{lt-ltb, le-ltb, ltb-false}
 use mir.Syntax.{w8}
@@ -21,32 +21,18 @@ use Rattle.journal.specs.FieldLaws.{bytes-drop}
 use Rattle.journal.specs.declared.Version.{Version}
 use Rattle.journal.specs.declared.Start.{Start}
 use Rattle.journal.specs.declared.Start.the-variants.{Records, Fault}
-use Rattle.journal.specs.Journal.{journalMost, TOO-LARGE, VERSION, stop, Contents, stopped, records, contents, firstByte, startOf, afterStart}
+use Rattle.journal.specs.Journal.{journalMost, TOO-LARGE, VERSION, stop, Contents, stopped, records, contents, firstByte, startOf}
 use Rattle.journal.specs.Theorems.{start-gives-the-contents}
 use Rattle.journal.specs.FieldLaws.{bytes-known}
 use Rattle.transcripts.specs.declared.Replayed.{Replayed}
-use Rattle.transcripts.specs.Transcript.{firstLine, lastLine, programRate, transcript}
-use Rattle.transcripts.specs.TranscriptLaws.{printedFrom, from-start, from-stop}
-use Rattle.transcripts.specs.Room.{roomFor}
-use Rattle.transcripts.specs.RoomLaws.{transcript-fits}
+use Rattle.printed.specs.Transcript.{firstLine, lastLine, programRate, transcript}
+use Rattle.printed.specs.TranscriptLaws.{printedFrom, from-start, from-stop}
+use Rattle.printed.specs.Room.{roomFor}
+use Rattle.printed.specs.RoomLaws.{transcript-fits, least-room}
 use Rattle.transcripts.specs.Written.{Wrote}
 use Rattle.transcripts.specs.Replay.{tooShort, answerOf, bufferOf, deskAfter, replayedOf, Replays}
 use Rattle.transcripts.proofs.OverLaws.{room-next, wrote-next}
 use Rattle.transcripts.proofs.ReplayLaws.{wholeOf}
-
--- ---- the room that is stated
-
-pub room-large : (n : ℕ) → journalMost < n → 21 + 10 * journalMost ≡ roomFor n
-unfolding roomFor
-room-large n h = let k : journalMost ≤ n = omega arith in rw (min-eq-right k)
-
-pub room-small : (n : ℕ) → n ≤ journalMost → 21 + 10 * n ≡ roomFor n
-unfolding roomFor
-room-small n h = rw (min-eq-left h)
-
-least-room : (n : ℕ) → 21 ≤ roomFor n
-unfolding roomFor
-least-room n = omega arith
 
 -- ---- the journal's start
 

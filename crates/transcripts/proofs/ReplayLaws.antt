@@ -30,9 +30,9 @@ use Rattle.journal_calls.specs.declared.Group.{Group}
 use Rattle.journal_calls.specs.declared.Group.the-variants as group
 use Rattle.journal_calls.specs.declared.Item.{Item}
 use Rattle.transcripts.specs.declared.Replayed.{Replayed}
-use Rattle.transcripts.specs.Transcript.{recordLine, lastLine, programRate}
-use Rattle.transcripts.specs.TranscriptLaws.{printedFrom, from-call, from-last}
-use Rattle.transcripts.specs.RoomLaws.{answered}
+use Rattle.printed.specs.Transcript.{recordLine, lastLine, programRate}
+use Rattle.printed.specs.TranscriptLaws.{printedFrom, from-call, from-last}
+use Rattle.printed.specs.RoomLaws.{answered}
 use Rattle.transcripts.specs.Written.{Wrote}
 use Rattle.journal_calls.specs.Groups.{isRecord, StandsAt, BodyAt}
 use Rattle.journal_calls.specs.ItemLaws.{RecordAt, Within, item-within, item-end, item-stop, item-record}

@@ -1,10 +1,3 @@
-pub mod Transcript
 pub mod Written
-pub mod Room
-pub mod TranscriptLaws
-pub mod LineLaws
-pub mod SmallAnswers
-pub mod RoomLaws
 pub mod Parts
 pub mod Replay
-pub mod Cases

@@ -12,9 +12,9 @@ use Rattle.rules.specs.Calls.{run}
 use Rattle.journal.specs.declared.Written.{Written}
 use Rattle.journal.specs.Journal.{Contents, contents}
 use Rattle.transcripts.specs.declared.Replayed.{Replayed}
-use Rattle.transcripts.specs.Transcript.{programRate, transcript}
-use Rattle.transcripts.specs.TranscriptLaws.{printedFrom}
-use Rattle.transcripts.specs.Room.{roomFor}
+use Rattle.printed.specs.Transcript.{programRate, transcript}
+use Rattle.printed.specs.TranscriptLaws.{printedFrom}
+use Rattle.printed.specs.Room.{roomFor}
 use Rattle.transcripts.specs.Written.{Wrote}
 
 -- 12: "writers: output too short"

@@ -2,8 +2,7 @@
 ghost use mathlib.Core.Path.{_≡_};
 ghost use Rattle.rules.specs.Fresh.{freshDesk};
 ghost use Rattle.transcripts.specs.Replay.{answerOf, bufferOf, replayedOf};
-ghost use Rattle.transcripts.specs.Room.{roomFor};
-ghost use Rattle.transcripts.specs.Transcript.{programRate};
+ghost use Rattle.printed.specs.Transcript.{programRate};
 use super::Replayed;
 use super::lines::put_first_line;
 use super::lines::put_stop_line;
@@ -12,20 +11,8 @@ use super::records::replay_records;
 use journal::Start;
 use journal::Written;
 use journal::start_of;
+use printed::room_for;
 use rules::numbers::ROOM;
-
-// The most bytes of a journal whose records are read.
-const JOURNAL_MOST: usize = 65536;
-
-// How many bytes are always enough for the transcript of a journal of so many bytes; 655,381 are for any.
-pub fn room_for(journal: usize) -> usize
-    ensures { λ r. ⌜ r ≡ roomFor journal ⌝ }
-{
-    if JOURNAL_MOST < journal {
-        return 21 + 10 * JOURNAL_MOST;
-    }
-    21 + 10 * journal
-}
 
 // The fresh desk, where no call was made.
 fn without_calls(number: u32, len: usize) -> Replayed

@@ -1,4 +1,4 @@
-// What the program prints for a journal: specs/Transcript says it. lines.rt writes the lines, records.rt carries the records out one after
+// Writes what the program prints for a journal (the crate printed says it). lines.rt writes the lines, records.rt carries the records out one after
 // another, and journals.rt does it for a whole journal.
 mod journals;
 mod lines;
@@ -6,7 +6,6 @@ mod records;
 
 pub use journals::replay;
 pub use journals::replay_into;
-pub use journals::room_for;
 use rules::Desk;
 
 // What a replay gives: 0 and the length of the transcript, or 12 and 0; and the desk after the calls of the

@@ -3,7 +3,7 @@ ghost use Prim.Native.Nat.{_+_, _≤_};
 ghost use lib.ListN.{length};
 ghost use Rattle.amount.specs.Digits.{decimal};
 ghost use Rattle.journal.specs.Journal.{Ending};
-ghost use Rattle.transcripts.specs.Transcript.{firstLine, numeral, recordLine, lastLine};
+ghost use Rattle.printed.specs.Transcript.{firstLine, numeral, recordLine, lastLine};
 ghost use Rattle.transcripts.specs.Written.{Wrote};
 use amount::write_decimal;
 use rules::Answer;

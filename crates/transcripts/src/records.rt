@@ -8,8 +8,8 @@ ghost use Rattle.rules.specs.Fresh.{freshDesk};
 ghost use Rattle.journal.specs.Journal.{records};
 ghost use Rattle.transcripts.specs.Parts.{deskOf};
 ghost use Rattle.transcripts.specs.Replay.{Replays};
-ghost use Rattle.transcripts.specs.Transcript.{programRate};
-ghost use Rattle.transcripts.specs.TranscriptLaws.{printedFrom};
+ghost use Rattle.printed.specs.Transcript.{programRate};
+ghost use Rattle.printed.specs.TranscriptLaws.{printedFrom};
 use super::Replayed;
 use super::lines::put_end_line;
 use super::lines::put_record_line;
@@ -55,12 +55,7 @@ fn done(len: usize, t: Tables, slots: [Session; 4]) -> Replayed
 // The records of a journal one after another, and the last line. The parts that a call gives back are stored in place. `n` is how many
 // records stand before `p`. The relays are a table by itself, and `t` has them where a call reads it: a row that is stored at a place in `t`
 // would have all of `t` copied for the calls that take it, and registers and heartbeats are many.
-pub(crate) fn replay_records(
-    v: Version,
-    journal: &[u8],
-    out: &mut [u8],
-    start: usize,
-) -> Replayed
+pub(crate) fn replay_records(v: Version, journal: &[u8], out: &mut [u8], start: usize) -> Replayed
     requires { ⌜ (areBytes (now journal) ≡ true) × (length (now journal) < 65536) × (start + length (printedFrom 0 (freshDesk programRate) (records v (now journal))) ≤ length (now out)) ⌝ }
     ensures { λ r. ⌜ Replays start (records v (now (journal .entry))) (now (out .entry)) r (now (out .exit)) ⌝ }
 {

@@ -1,5 +1,5 @@
 -- `put_end_line` meets its contract: the word, and then the records read. Assumes nothing.
-use Rattle.transcripts.specs.Transcript.{lastLine}
+use Rattle.printed.specs.Transcript.{lastLine}
 use Rattle.transcripts.proofs.OverLaws.{pieces}
 use Rattle.transcripts.proofs.lines.put_end_line.Statement.{statement}
 use Rattle.transcripts.proofs.lines.put_end_line.Tie as tie

@@ -1,5 +1,5 @@
 -- `put_numeral` meets its contract: the digits, and then the byte. Assumes nothing.
-use Rattle.transcripts.specs.Transcript.{numeral}
+use Rattle.printed.specs.Transcript.{numeral}
 use Rattle.transcripts.proofs.OverLaws.{pieces}
 use Rattle.transcripts.proofs.lines.put_numeral.Statement.{statement}
 use Rattle.transcripts.proofs.lines.put_numeral.Tie as tie

@@ -1,6 +1,6 @@
 -- `put_record_line` meets its contract: place, answer and value, one after another. Assumes nothing.
 use borrow.Author.Needs.{needs}
-use Rattle.transcripts.specs.Transcript.{recordLine}
+use Rattle.printed.specs.Transcript.{recordLine}
 use Rattle.transcripts.proofs.OverLaws.{pieces, three}
 use Rattle.transcripts.proofs.lines.put_record_line.Statement.{statement}
 use Rattle.transcripts.proofs.lines.put_record_line.Tie as tie

@@ -1,5 +1,5 @@
 -- `put_stop_line` meets its contract: the word, the records read, and then the number. Assumes nothing.
-use Rattle.transcripts.specs.Transcript.{lastLine}
+use Rattle.printed.specs.Transcript.{lastLine}
 use Rattle.transcripts.proofs.OverLaws.{pieces, three}
 use Rattle.transcripts.proofs.lines.put_stop_line.Statement.{statement}
 use Rattle.transcripts.proofs.lines.put_stop_line.Tie as tie

@@ -17,7 +17,13 @@ use Rattle.rules.specs.Scope.{inWindow}
 use Rattle.rules.specs.Outcome.{slotRefused}
 use Rattle.rules.specs.VolumeCalls.{isActive}
 use Rattle.rules.specs.Commit.{commitLimits, commitToken, commitVolume, commitRule}
-use Rattle.commits.specs.Checks.{tokenFault}
+
+-- 5: "clock outside the token's window"; 8: "status doesn't allow the call"; 9: "volume's version isn't the one at opening"; 21: the version has
+-- reached its end
+unfoldable pub tokenFault : ℕ → Volume → ℕ → Token → ℕ
+tokenFault clock v version k =
+    cond (not (inWindow clock (k .scope))) WINDOW
+    (cond (not (isActive (v .status))) STATE (cond (not (eqb (v .version) version)) CONFLICT (cond (leb lastVersion (v .version)) SPENT 0)))
 
 -- 4, then 5, 8, 9 and 21
 unfoldable pub earlyToken : ℕ → Session → Volume → Hit Token → ℕ

@@ -10,7 +10,7 @@ use Rattle.amount.specs.Digits.{decimal}
 use Rattle.amount.specs.DecimalLaws.{decimal-length}
 use Rattle.rules.specs.declared.Answer.{Answer}
 use Rattle.journal.specs.Journal.{end, stop}
-use Rattle.transcripts.specs.Transcript.{newline, numeral, recordLine, lastLine}
+use Rattle.printed.specs.Transcript.{newline, numeral, recordLine, lastLine}
 
 -- a number below 100, one below 10^5, and one of 64 bits
 pub digits-2 : (n : ℕ) → n < 100 → length (decimal n) ≤ 2

@@ -16,7 +16,7 @@ use Rattle.journal.specs.Numbers.{numberOf}
 use Rattle.journal.specs.Fields.{part, decodeNumber, decodeText, decode, decodeAll}
 use Rattle.journal.specs.Records.{kindAmong, parse, readRecord}
 use Rattle.journal.specs.Journal.{recordsIn, contents}
-use Rattle.transcripts.specs.Transcript.{newline, numeral, recordLine, recordLines, lastLine, printed, transcript}
+use Rattle.printed.specs.Transcript.{newline, numeral, recordLine, recordLines, lastLine, printed, transcript}
 
 -- a line with its newline
 abbrev line : String → List ℕ

@@ -9,7 +9,7 @@ use Rattle.rules.specs.declared.Desk.{Desk}
 use Rattle.rules.specs.Fresh.{freshDesk}
 use Rattle.rules.specs.Calls.{Call, step, answers}
 use Rattle.journal.specs.Journal.{Ending, end, stop, Contents, stopped, ended, after}
-use Rattle.transcripts.specs.Transcript.{firstLine, recordLine, recordLines, lastLine, programRate, printed}
+use Rattle.printed.specs.Transcript.{firstLine, recordLine, recordLines, lastLine, programRate, printed}
 
 -- what is still to be printed: so many records were, they left the desk d, and the rest of the journal holds c
 unfoldable pub printedFrom : ℕ → Desk → Contents → List ℕ

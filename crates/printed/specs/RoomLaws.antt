@@ -4,10 +4,10 @@ use mathlib.Core.Bool.{Bool, true, false, cond}
 use mathlib.Core.List.{List, [], _∷_}
 use mathlib.Core.Option.{Option, none, some}
 use Prim.Native.Nat.{ℕ, zero, suc, _+_, _*_, _^_, _<_, _≤_, min}
-use native.Mathlib.Nat.{min-eq-left}
+use native.Mathlib.Nat.{min-eq-left, min-eq-right}
 use native.Mathlib.Omega.{arith}
 use borrow.Author.Tests.{ltb-false}
-use lib.Dec.{eqb, ltb, lit<}
+use lib.Dec.{ltb, lit<}
 use lib.Pow.{areBytes}
 use lib.ListN.{length, length-append}
 use Rattle.lists.specs.BoolLaws.{and-right}
@@ -23,13 +23,12 @@ use Rattle.journal.specs.declared.Version.{Version}
 use Rattle.journal.specs.Records.{parse, readRecord}
 use Rattle.journal.specs.Places.{RECORD}
 use Rattle.journal.specs.Journal.{journalMost, TOO-LARGE, VERSION, framed, stopped, onCall, onFrame, recordsIn, records, onVersion, versionNumbered, versioned, contents}
-use Rattle.journal.specs.JournalLaws.{records-step}
-use Rattle.journal_calls.specs.NextLaws.{apart}
-use Rattle.transcripts.specs.Transcript.{firstLine, recordLine, programRate, transcript}
-use Rattle.transcripts.specs.TranscriptLaws.{printedFrom, from-start, from-call, from-stop, from-end}
-use Rattle.transcripts.specs.LineLaws.{line-most, stop-most, end-most}
-use Rattle.transcripts.specs.SmallAnswers.{Small, small-answer}
-use Rattle.transcripts.specs.Room.{roomFor}
+use Rattle.journal.specs.JournalLaws.{records-step, apart}
+use Rattle.printed.specs.Transcript.{firstLine, recordLine, programRate, transcript}
+use Rattle.printed.specs.TranscriptLaws.{printedFrom, from-start, from-call, from-stop, from-end}
+use Rattle.printed.specs.LineLaws.{line-most, stop-most, end-most}
+use Rattle.printed.specs.SmallAnswers.{Small, small-answer}
+use Rattle.printed.specs.Room.{roomFor}
 
 -- a call on a sound desk is answered by its rule
 pub answered : (c : Call) (d : Desk) → DeskInvariant d → step c d ≡ rule c d
@@ -115,3 +114,17 @@ contents-fit l h = on-size (ltb journalMost (length l)) refl
 pub transcript-fits : (l : List ℕ) → areBytes l ≡ true → length (transcript l) ≤ roomFor (length l)
 unfolding transcript roomFor
 transcript-fits l h = rw (from-start (contents l), length-append firstLine (printedFrom 0 (freshDesk programRate) (contents l))) (omega (arith, contents-fit l h))
+
+-- ---- the room that is stated
+
+pub room-large : (n : ℕ) → journalMost < n → 21 + 10 * journalMost ≡ roomFor n
+unfolding roomFor
+room-large n h = let k : journalMost ≤ n = omega arith in rw (min-eq-right k)
+
+pub room-small : (n : ℕ) → n ≤ journalMost → 21 + 10 * n ≡ roomFor n
+unfolding roomFor
+room-small n h = rw (min-eq-left h)
+
+pub least-room : (n : ℕ) → 21 ≤ roomFor n
+unfolding roomFor
+least-room n = omega arith

@@ -1,10 +1,10 @@
--- `checks::token_fault` meets its contract: check by check. Assumes nothing.
+-- `early::token_fault` meets its contract: check by check. Assumes nothing.
 use Rattle.lists.specs.AnswerLaws.{checks}
-use Rattle.commits.specs.Checks.{tokenFault}
+use Rattle.first_checks.specs.Early.{tokenFault}
 use borrow.Author.Needs.{needs}
 use borrow.Author.Tests.{eq-eqb, ne-eqb}
-use Rattle.commits.proofs.checks.token_fault.Statement.{statement}
-use Rattle.commits.proofs.checks.token_fault.Tie as tie
+use Rattle.first_checks.proofs.early.token_fault.Statement.{statement}
+use Rattle.first_checks.proofs.early.token_fault.Tie as tie
 
 pub token-fault-spec : {M : Type 1} → statement M
 unfolding tokenFault

@@ -1,8 +1,8 @@
 -- `room_for` meets its contract: above 65,536 bytes, or not. Assumes nothing.
 use borrow.Author.Needs.{needs}
-use Rattle.transcripts.proofs.ReplayAnswers.{room-large, room-small}
-use Rattle.transcripts.proofs.journals.room_for.Statement.{statement}
-use Rattle.transcripts.proofs.journals.room_for.Tie as tie
+use Rattle.printed.specs.RoomLaws.{room-large, room-small}
+use Rattle.printed.proofs.room_for.Statement.{statement}
+use Rattle.printed.proofs.room_for.Tie as tie
 
 pub room-for-spec : {M : Type 1} → statement M
 room-for-spec =

@@ -1,10 +1,10 @@
--- `checks::early_refusal` meets its contract: each return is that of its check. Assumes nothing.
+-- `early::early_refusal` meets its contract: each return is that of its check. Assumes nothing.
 use Rattle.lists.specs.AnswerLaws.{checks, in-table}
-use Rattle.commits.specs.Early.{earlyVolume, earlyNumber}
-use Rattle.commits.proofs.CheckLaws.{early-volume-none, early-volume-at}
+use Rattle.first_checks.specs.Early.{earlyVolume, earlyNumber}
+use Rattle.first_checks.proofs.EarlyLaws.{early-volume-none, early-volume-at}
 use borrow.Author.Needs.{needs}
-use Rattle.commits.proofs.checks.early_refusal.Statement.{statement}
-use Rattle.commits.proofs.checks.early_refusal.Tie as tie
+use Rattle.first_checks.proofs.early.early_refusal.Statement.{statement}
+use Rattle.first_checks.proofs.early.early_refusal.Tie as tie
 
 pub early-refusal-spec : {M : Type 1} → statement M
 unfolding earlyNumber earlyVolume
