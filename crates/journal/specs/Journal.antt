@@ -119,6 +119,10 @@ abbrev pub readingNumber : Reading → ℕ
 readingNumber (Fits r) = 0
 readingNumber (Refused n) = n
 
+abbrev pub startNumber : Start → ℕ
+startNumber (Records v) = 0
+startNumber (Fault n) = n
+
 abbrev pub nextNumber : Next → ℕ
 nextNumber End = 0
 nextNumber (Whole r n) = 0

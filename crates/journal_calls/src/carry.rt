@@ -1,4 +1,5 @@
-// The work of a record, group by group: the call's fields are taken from the record and its bytes, and the call's crate does it.
+// The work of a record, a function for each group of calls but advance: the call's fields are taken from the record and its bytes, and the call's
+// crate does it.
 ghost use mathlib.Core.Path.{_≡_};
 ghost use Rattle.rules.specs.Calls.{workRule};
 ghost use Rattle.removes.specs.Parts.{onRemove};

@@ -1,5 +1,5 @@
-// The calls of a journal's records: items.rt tells what stands at a place of a journal, and carry.rt carries a record's call out, group by
-// group.
+// The calls of a journal's records: items.rt tells what stands at a place of a journal, and carry.rt carries a record's call out, but for an advance
+// and a call on no slot, which the replay does itself.
 mod carry;
 mod items;
 

@@ -31,7 +31,7 @@ putWithin p = leb (p .size) sizeLimit
 unfoldable pub tokenWithin : Token → Bool
 tokenWithin k = freeToken k || leb (k .used) usedLimit
 
--- used bytes up to the largest capacity, 2^42, and no more shards held than there are entries
+-- used bytes up to the largest capacity, 2^42, and no more shards held than the entry table has rows, 64
 unfoldable pub relayWithin : Relay → Bool
 relayWithin r = freeRelay r || (leb (r .used) capacityLimit && leb (r .held) entryRows)
 
