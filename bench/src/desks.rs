@@ -1,10 +1,11 @@
 //! The test of the desk that is answered 1 before all else, beside a plain one written for speed.
 
+use crate::journals::is_read;
 use crate::timing::{each, once};
 use model::array_desk::{is_path_by_bytes, is_path_by_walks, ArrayDesk, Tester};
 use model::desk::{Desk, RATE};
-use model::journal::write_journal;
-use model::settings::{calls, Setting, EMPTY, FULL, HALF};
+use model::journal::{write_journal, MOST};
+use model::settings::{calls, Setting, EMPTY, FULL, FULL_LONGEST, HALF};
 use std::hint::black_box;
 use std::time::Duration;
 
@@ -22,8 +23,10 @@ fn made(setting: Setting) -> Made {
     let mut desk = Desk::fresh(RATE);
     let accepted = calls.iter().filter(|call| desk.run(call).is_ok()).count();
     assert_eq!(accepted, calls.len(), "the setting has a call that is refused");
-    // Every text of these calls has at most 128 bytes, and every mode is known.
-    Made { journal: write_journal(&calls).unwrap(), array: ArrayDesk::from(&desk) }
+    // The version holds every path of the setting, and every mode is known.
+    let journal = write_journal(setting.version(), &calls).unwrap();
+    assert!(journal.len() <= MOST, "the setting needs a journal that is too long");
+    Made { journal, array: ArrayDesk::from(&desk) }
 }
 
 /// The best times of TIMES tests by the library, and by the plain test in its two ways.
@@ -57,7 +60,12 @@ fn best(desk: &Made, rounds: usize) -> [Duration; 3] {
 }
 
 fn show(name: &str, setting: Setting, rounds: usize) {
-    let [library, bytes, walks] = best(&made(setting), rounds).map(|t| each(t, TIMES as usize));
+    let made = made(setting);
+    if !is_read(&made.journal) {
+        println!("{name:<44} this library does not read its journal");
+        return;
+    }
+    let [library, bytes, walks] = best(&made, rounds).map(|t| each(t, TIMES as usize));
     let ratios = (library / bytes, library / walks);
     println!(
         "{name:<44} {library:>10.3} {bytes:>10.3} {:>8.2} {walks:>10.3} {:>8.2}",
@@ -78,4 +86,8 @@ pub fn run(rounds: usize) {
     for entries in [0, 8, 16, 32, 48, 64] {
         show(&format!("full, with {entries} entries"), Setting { entries, ..FULL }, rounds);
     }
+    show("full, paths of 512, 5 puts a slot", FULL_LONGEST, rounds);
+    let entries = FULL_LONGEST.entries / 2;
+    let half = Setting { entries, ..FULL_LONGEST };
+    show(&format!("full, paths of 512, with {entries} entries"), half, rounds);
 }

@@ -25,6 +25,11 @@ pub fn best(
     times
 }
 
+/// Two times with two others taken off.
+pub fn less(times: (Duration, Duration), off: (Duration, Duration)) -> (Duration, Duration) {
+    (times.0.saturating_sub(off.0), times.1.saturating_sub(off.1))
+}
+
 /// What a copy of 64 KB takes.
 pub fn copy(rounds: usize) -> Duration {
     let (from, mut to) = (vec![1u8; 65_536], vec![0u8; 65_536]);

@@ -5,20 +5,27 @@
 
 use crate::amount::Cap;
 use crate::desk::{self, Desk, Status, CHAIN, ENTRIES, PUTS, RELAYS, SLOTS, TOKENS, VOLUMES};
-use crate::desk::{LAST_NUMBER, MOST_BALANCE, MOST_BLOCK, MOST_CAPACITY, MOST_DEPOSITS};
+use crate::desk::{
+    LAST_NUMBER, LONGEST_NAME, LONGEST_PATH, MOST_BALANCE, MOST_BLOCK, MOST_CAPACITY, MOST_DEPOSITS,
+};
 use crate::desk::{MOST_SIZE, MOST_USED};
 
+/// A text of at most MOST bytes.
 #[derive(Clone, Copy)]
-pub struct Text {
-    pub bytes: [u8; 128],
+pub struct Text<const MOST: usize> {
+    pub bytes: [u8; MOST],
     pub len: usize,
 }
+
+pub type Name = Text<LONGEST_NAME>;
+/// A path or a prefix.
+pub type Path = Text<LONGEST_PATH>;
 
 #[derive(Clone, Copy)]
 pub struct Volume {
     pub no: u32,
     pub owner: [u8; 32],
-    pub name: Text,
+    pub name: Name,
     pub k: u8,
     pub m: u8,
     pub cap: Cap,
@@ -33,7 +40,7 @@ pub struct Volume {
 #[derive(Clone, Copy)]
 pub struct Entry {
     pub volume: u32,
-    pub path: Text,
+    pub path: Path,
     pub size: u64,
     pub hash: [u8; 32],
     pub relays: [u32; 24],
@@ -45,7 +52,7 @@ pub struct Token {
     pub no: u32,
     pub volume: u32,
     pub parent: u32,
-    pub prefix: Text,
+    pub prefix: Path,
     pub mode: u8,
     pub cap: Cap,
     pub from: u64,
@@ -64,7 +71,7 @@ pub struct Relay {
 
 #[derive(Clone, Copy)]
 pub struct Put {
-    pub path: Text,
+    pub path: Path,
     pub size: u64,
     pub hash: [u8; 32],
 }
@@ -93,11 +100,11 @@ pub struct ArrayDesk {
     pub sessions: [Session; SLOTS],
 }
 
-const NO_TEXT: Text = Text { bytes: [0; 128], len: 0 };
+impl<const MOST: usize> Text<MOST> {
+    const EMPTY: Text<MOST> = Text { bytes: [0; MOST], len: 0 };
 
-impl Text {
-    pub fn new(text: &[u8]) -> Text {
-        let mut new = NO_TEXT;
+    pub fn new(text: &[u8]) -> Text<MOST> {
+        let mut new = Text::EMPTY;
         new.bytes[..text.len()].copy_from_slice(text);
         new.len = text.len();
         new
@@ -107,7 +114,15 @@ impl Text {
     fn get(&self) -> Option<&[u8]> {
         self.bytes.get(..self.len)
     }
+}
 
+impl Name {
+    fn is_name(&self) -> bool {
+        self.get().is_some_and(desk::is_name)
+    }
+}
+
+impl Path {
     fn is_path(&self, is_path: IsPath) -> bool {
         self.get().is_some_and(is_path)
     }
@@ -120,10 +135,6 @@ impl Text {
         }
     }
 
-    fn is_name(&self) -> bool {
-        self.get().is_some_and(desk::is_name)
-    }
-
     /// Equal texts have equal keys: the length and the last bytes, which differ most often.
     fn key(&self) -> u64 {
         let end = self.len.max(8);
@@ -132,7 +143,7 @@ impl Text {
     }
 }
 
-/// Whether at most 128 bytes are a path.
+/// Whether at most 512 bytes are a path.
 pub type IsPath = fn(&[u8]) -> bool;
 
 /// One walk, byte by byte: bytes in 0x21..0x7E, and no part that is empty, "." or "..".
@@ -343,7 +354,7 @@ fn session(d: &ArrayDesk, s: &Session, is_path: IsPath) -> bool {
 const FREE_VOLUME: Volume = Volume {
     no: 0,
     owner: [0; 32],
-    name: NO_TEXT,
+    name: Text::EMPTY,
     k: 0,
     m: 0,
     cap: Cap::Bytes(0),
@@ -354,12 +365,12 @@ const FREE_VOLUME: Volume = Volume {
     deleted: 0,
 };
 const FREE_ENTRY: Entry =
-    Entry { volume: 0, path: NO_TEXT, size: 0, hash: [0; 32], relays: [0; 24], len: 0 };
+    Entry { volume: 0, path: Text::EMPTY, size: 0, hash: [0; 32], relays: [0; 24], len: 0 };
 const FREE_TOKEN: Token = Token {
     no: 0,
     volume: 0,
     parent: 0,
-    prefix: NO_TEXT,
+    prefix: Text::EMPTY,
     mode: 0,
     cap: Cap::Bytes(0),
     from: 0,
@@ -367,7 +378,7 @@ const FREE_TOKEN: Token = Token {
     used: 0,
 };
 const FREE_RELAY: Relay = Relay { no: 0, capacity: 0, used: 0, held: 0, beat: 0 };
-const FREE_PUT: Put = Put { path: NO_TEXT, size: 0, hash: [0; 32] };
+const FREE_PUT: Put = Put { path: Text::EMPTY, size: 0, hash: [0; 32] };
 const IDLE: Session = Session { token: 0, volume: 0, version: 0, count: 0, puts: [FREE_PUT; PUTS] };
 
 /// The rows of a table, free ones where there is none.

@@ -58,6 +58,17 @@ impl Call {
         }
     }
 
+    /// The path or prefix of a call that has one.
+    pub fn path_or_prefix(&self) -> Option<&[u8]> {
+        match self {
+            Call::Grant { scope, .. } | Call::Attenuate { scope, .. } => Some(&scope.prefix),
+            Call::Stage { path, .. } | Call::Remove { path, .. } | Call::Look { path, .. } => {
+                Some(path)
+            }
+            _ => None,
+        }
+    }
+
     /// The slot of a call of kinds 09 to 0C.
     pub fn slot(&self) -> Option<u8> {
         match *self {

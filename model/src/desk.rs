@@ -15,6 +15,10 @@ pub const SLOTS: usize = 4;
 pub const PUTS: usize = 8;
 pub const CHAIN: usize = 8;
 
+/// The longest path, and the longest prefix with its slash.
+pub const LONGEST_PATH: usize = 512;
+pub const LONGEST_NAME: usize = 64;
+
 pub const MOST_SIZE: u64 = 1 << 36;
 pub const MOST_CAPACITY: u64 = 1 << 42;
 pub const MOST_USED: u64 = 1 << 60;
@@ -139,22 +143,22 @@ pub struct Desk {
 
 /// 1 to 64 bytes of a-z A-Z 0-9 _ - .
 pub fn is_name(name: &[u8]) -> bool {
-    (1..=64).contains(&name.len())
+    (1..=LONGEST_NAME).contains(&name.len())
         && name.iter().all(|b| b.is_ascii_alphanumeric() || b"_-.".contains(b))
 }
 
-/// 1 to 128 bytes in 0x21..0x7E whose parts between "/" are not empty, "." or "..".
+/// 1 to 512 bytes in 0x21..0x7E whose parts between "/" are not empty, "." or "..".
 pub fn is_path(path: &[u8]) -> bool {
-    (1..=128).contains(&path.len())
+    (1..=LONGEST_PATH).contains(&path.len())
         && path.iter().all(|b| (0x21..=0x7E).contains(b))
         && path.split(|b| *b == b'/').all(|part| !part.is_empty() && part != b"." && part != b"..")
 }
 
-/// Empty, or a path followed by "/", at most 128 bytes in all.
+/// Empty, or a path followed by "/", at most 512 bytes in all.
 pub fn is_prefix(prefix: &[u8]) -> bool {
     match prefix.split_last() {
         None => true,
-        Some((last, path)) => prefix.len() <= 128 && *last == b'/' && is_path(path),
+        Some((last, path)) => prefix.len() <= LONGEST_PATH && *last == b'/' && is_path(path),
     }
 }
 

@@ -1,43 +1,91 @@
-//! The journal: one version byte 01, then records of u16 length, kind and fields, big-endian.
+//! The journal: one version byte, then records of u16 length, kind and fields, big-endian.
+//!
+//! The version says how texts stand in the records: after a length of one byte in version 01, of two bytes in version 02.
 
 use crate::amount::Cap;
 use crate::call::{number, value, Bytes32, Call, Scope};
 use crate::desk::{Desk, RATE};
 use crate::refusal::{BAD, RECORD, ROOM, TOO_LARGE, VERSION};
 
-pub const FORMAT: u8 = 0x01;
 /// The longest journal, its version byte included.
 pub const MOST: usize = 65_536;
 
+/// The versions of a journal.
+#[derive(Clone, Copy, Debug, PartialEq, Eq)]
+pub enum Version {
+    One,
+    Two,
+}
+
+impl Version {
+    pub const ALL: [Version; 2] = [Version::One, Version::Two];
+
+    /// The version of a version byte.
+    pub fn of(byte: u8) -> Option<Version> {
+        Version::ALL.into_iter().find(|version| version.byte() == byte)
+    }
+
+    /// The first version with texts as long as this.
+    pub fn holding(length: usize) -> Option<Version> {
+        Version::ALL.into_iter().find(|version| length <= version.longest_text())
+    }
+
+    pub fn byte(self) -> u8 {
+        match self {
+            Version::One => 0x01,
+            Version::Two => 0x02,
+        }
+    }
+
+    /// How many bytes the length of a text takes.
+    pub fn width(self) -> usize {
+        match self {
+            Version::One => 1,
+            Version::Two => 2,
+        }
+    }
+
+    /// How many bytes a text has at most.
+    pub fn longest_text(self) -> usize {
+        match self {
+            Version::One => 255,
+            Version::Two => 1_024,
+        }
+    }
+}
+
 /// Writes the fields of a record.
-struct Writer(Vec<u8>);
+struct Writer {
+    version: Version,
+    written: Vec<u8>,
+}
 
 impl Writer {
-    fn u8(mut self, n: u8) -> Writer {
-        self.0.push(n);
+    fn put(mut self, bytes: &[u8]) -> Writer {
+        self.written.extend(bytes);
         self
     }
 
-    fn u32(mut self, n: u32) -> Writer {
-        self.0.extend(n.to_be_bytes());
-        self
+    fn u8(self, n: u8) -> Writer {
+        self.put(&[n])
     }
 
-    fn u64(mut self, n: u64) -> Writer {
-        self.0.extend(n.to_be_bytes());
-        self
+    fn u32(self, n: u32) -> Writer {
+        self.put(&n.to_be_bytes())
     }
 
-    fn bytes(mut self, b: &Bytes32) -> Writer {
-        self.0.extend(b);
-        self
+    fn u64(self, n: u64) -> Writer {
+        self.put(&n.to_be_bytes())
     }
 
+    /// The length, in as many bytes as the version has for it, and the bytes.
     fn text(self, text: &[u8]) -> Result<Writer, u32> {
-        let length = u8::try_from(text.len()).map_err(|_| BAD)?;
-        let mut writer = self.u8(length);
-        writer.0.extend(text);
-        Ok(writer)
+        if text.len() > self.version.longest_text() {
+            return Err(BAD);
+        }
+        let length = text.len().to_be_bytes();
+        let first = length.len() - self.version.width();
+        Ok(self.put(&length[first..]).put(text))
     }
 
     fn cap(self, cap: Cap) -> Writer {
@@ -57,35 +105,36 @@ impl Writer {
 }
 
 /// Kind and fields of a call.
-fn kind_and_fields(call: &Call) -> Result<Vec<u8>, u32> {
-    let w = Writer(vec![call.kind()]);
+fn kind_and_fields(version: Version, call: &Call) -> Result<Vec<u8>, u32> {
+    let w = Writer { version, written: vec![call.kind()] };
     let w = match call {
         Call::Advance { block } => w.u64(*block),
         Call::Create { account, name, k, m, cap } => {
-            w.bytes(account).text(name)?.u8(*k).u8(*m).cap(*cap)
+            w.put(account).text(name)?.u8(*k).u8(*m).cap(*cap)
         }
         Call::Deposit { volume, coins } => w.u32(*volume).u64(*coins),
-        Call::Delete { account, volume } => w.bytes(account).u32(*volume),
-        Call::Undelete { account, volume } => w.bytes(account).u32(*volume),
-        Call::Grant { account, volume, scope } => w.bytes(account).u32(*volume).scope(scope)?,
+        Call::Delete { account, volume } => w.put(account).u32(*volume),
+        Call::Undelete { account, volume } => w.put(account).u32(*volume),
+        Call::Grant { account, volume, scope } => w.put(account).u32(*volume).scope(scope)?,
         Call::Attenuate { token, scope } => w.u32(*token).scope(scope)?,
-        Call::Revoke { account, token } => w.bytes(account).u32(*token),
+        Call::Revoke { account, token } => w.put(account).u32(*token),
         Call::Open { slot, token } => w.u8(*slot).u32(*token),
-        Call::Stage { slot, path, size, hash } => w.u8(*slot).text(path)?.u64(*size).bytes(hash),
+        Call::Stage { slot, path, size, hash } => w.u8(*slot).text(path)?.u64(*size).put(hash),
         Call::Commit { slot } => w.u8(*slot),
         Call::Abandon { slot } => w.u8(*slot),
-        Call::Remove { account, volume, path } => w.bytes(account).u32(*volume).text(path)?,
+        Call::Remove { account, volume, path } => w.put(account).u32(*volume).text(path)?,
         Call::Look { token, path } => w.u32(*token).text(path)?,
         Call::Register { capacity } => w.u64(*capacity),
         Call::Heartbeat { relay } => w.u32(*relay),
     };
-    Ok(w.0)
+    Ok(w.written)
 }
 
-/// One record, its length included, that fits a buffer of `room` bytes:
-/// 1 for what the reader cannot give, then 12.
-pub fn write_record(call: &Call, room: usize) -> Result<Vec<u8>, u32> {
-    let body = kind_and_fields(call)?;
+/// One record of a journal with this version byte, the record's length included, that fits a buffer of `room` bytes:
+/// 1 for an unknown version and for what the reader cannot give, then 12.
+pub fn write_record(version: u8, call: &Call, room: usize) -> Result<Vec<u8>, u32> {
+    let version = Version::of(version).ok_or(BAD)?;
+    let body = kind_and_fields(version, call)?;
     let length = u16::try_from(body.len()).map_err(|_| BAD)?;
     let mut record = length.to_be_bytes().to_vec();
     record.extend(body);
@@ -96,21 +145,24 @@ pub fn write_record(call: &Call, room: usize) -> Result<Vec<u8>, u32> {
 }
 
 /// The whole journal of a list of calls.
-pub fn write_journal(calls: &[Call]) -> Result<Vec<u8>, u32> {
-    let mut journal = vec![FORMAT];
+pub fn write_journal(version: Version, calls: &[Call]) -> Result<Vec<u8>, u32> {
+    let mut journal = vec![version.byte()];
     for call in calls {
-        journal.extend(write_record(call, usize::MAX)?);
+        journal.extend(write_record(version.byte(), call, usize::MAX)?);
     }
     Ok(journal)
 }
 
 /// Reads from the front of what is left.
-struct Reader<'a>(&'a [u8]);
+struct Reader<'a> {
+    version: Version,
+    left: &'a [u8],
+}
 
 impl<'a> Reader<'a> {
     fn take(&mut self, count: usize) -> Result<&'a [u8], u32> {
-        let (front, rest) = self.0.split_at_checked(count).ok_or(RECORD)?;
-        self.0 = rest;
+        let (front, rest) = self.left.split_at_checked(count).ok_or(RECORD)?;
+        self.left = rest;
         Ok(front)
     }
 
@@ -135,8 +187,12 @@ impl<'a> Reader<'a> {
     }
 
     fn text(&mut self) -> Result<Vec<u8>, u32> {
-        let length = self.u8()?;
-        Ok(self.take(usize::from(length))?.to_vec())
+        let length = self.take(self.version.width())?;
+        let length = length.iter().fold(0, |high, low| high << 8 | usize::from(*low));
+        if length > self.version.longest_text() {
+            return Err(RECORD);
+        }
+        Ok(self.take(length)?.to_vec())
     }
 
     fn cap(&mut self) -> Result<Cap, u32> {
@@ -191,11 +247,11 @@ fn read_fields(kind: u8, r: &mut Reader) -> Result<Call, u32> {
 }
 
 /// Kind and fields, exactly as long as the record.
-fn read_body(body: &[u8]) -> Result<Call, u32> {
-    let mut reader = Reader(body);
+fn read_body(version: Version, body: &[u8]) -> Result<Call, u32> {
+    let mut reader = Reader { version, left: body };
     let kind = reader.u8()?;
     let call = read_fields(kind, &mut reader)?;
-    if !reader.0.is_empty() {
+    if !reader.left.is_empty() {
         return Err(RECORD);
     }
     Ok(call)
@@ -203,7 +259,12 @@ fn read_body(body: &[u8]) -> Result<Call, u32> {
 
 fn read_record(reader: &mut Reader) -> Result<Call, u32> {
     let length = reader.u16()?;
-    read_body(reader.take(usize::from(length))?)
+    read_body(reader.version, reader.take(usize::from(length))?)
+}
+
+/// The version of a journal; 28 where its first byte is missing or another.
+pub fn version(journal: &[u8]) -> Result<Version, u32> {
+    journal.first().and_then(|byte| Version::of(*byte)).ok_or(VERSION)
 }
 
 /// The calls before the first fault, and the fault's number if there is one.
@@ -211,12 +272,13 @@ pub fn read_journal(journal: &[u8]) -> (Vec<Call>, Option<u32>) {
     if journal.len() > MOST {
         return (Vec::new(), Some(TOO_LARGE));
     }
-    let Some((&FORMAT, records)) = journal.split_first() else {
-        return (Vec::new(), Some(VERSION));
+    let version = match version(journal) {
+        Ok(version) => version,
+        Err(fault) => return (Vec::new(), Some(fault)),
     };
-    let mut reader = Reader(records);
+    let mut reader = Reader { version, left: &journal[1..] };
     let mut calls = Vec::new();
-    while !reader.0.is_empty() {
+    while !reader.left.is_empty() {
         match read_record(&mut reader) {
             Ok(call) => calls.push(call),
             Err(fault) => return (calls, Some(fault)),

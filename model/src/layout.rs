@@ -1,15 +1,22 @@
 //! The desk as bytes: every field of every row and slot, in a fixed order, big-endian.
 //!
 //! A free row is all zeros, but the cap of a free volume or token row is that of 0 bytes.
-//! A text takes 128 bytes, zeros after its own, then its length in 8; a placement takes 24 numbers, then its length in 8.
+//! A path or prefix takes 512 bytes and a name 64, zeros after its own, then its length in 8; a placement takes 24 numbers,
+//! then its length in 8.
 
 use crate::amount::Cap;
 use crate::desk::*;
 
 /// How many bytes a desk takes.
-pub const DESK: usize = 32_406;
+pub const DESK: usize = 81_046;
 
-const TEXT: usize = 128;
+/// How many bytes a row or slot of each kind takes, and a put of a slot.
+const VOLUME: usize = 141;
+const ENTRY: usize = 668;
+const TOKEN: usize = 566;
+const RELAY: usize = 32;
+const SLOT: usize = 4_500;
+const PUT: usize = 560;
 const SHARDS: usize = 24;
 
 struct Writer(Vec<u8>);
@@ -35,10 +42,15 @@ impl Writer {
         self.0.resize(self.0.len() + count, 0);
     }
 
-    fn text(&mut self, text: &[u8]) {
+    fn text(&mut self, text: &[u8], longest: usize) {
         self.0.extend(text);
-        self.zeros(TEXT - text.len());
+        self.zeros(longest - text.len());
         self.u64(text.len() as u64);
+    }
+
+    /// A path or a prefix.
+    fn path(&mut self, text: &[u8]) {
+        self.text(text, LONGEST_PATH);
     }
 
     fn cap(&mut self, cap: Cap) {
@@ -54,7 +66,7 @@ impl Writer {
     fn volume(&mut self, v: &Volume) {
         self.u32(v.number);
         self.0.extend(v.owner);
-        self.text(&v.name);
+        self.text(&v.name, LONGEST_NAME);
         self.u8(v.k);
         self.u8(v.m);
         self.cap(v.cap);
@@ -71,14 +83,14 @@ impl Writer {
     }
 
     fn free_volume(&mut self) {
-        self.zeros(4 + 32 + TEXT + 8 + 2);
+        self.zeros(4 + 32 + LONGEST_NAME + 8 + 2);
         self.cap(Cap::Bytes(0));
         self.zeros(1 + 8 + 4 + 1 + 8);
     }
 
     fn entry(&mut self, e: &Entry) {
         self.u32(e.volume);
-        self.text(&e.path);
+        self.path(&e.path);
         self.u64(e.size);
         self.0.extend(e.hash);
         e.placement.iter().for_each(|relay| self.u32(*relay));
@@ -90,7 +102,7 @@ impl Writer {
         self.u32(t.number);
         self.u32(t.volume);
         self.u32(t.parent.unwrap_or(0));
-        self.text(&t.scope.prefix);
+        self.path(&t.scope.prefix);
         self.u8(t.scope.mode);
         self.cap(t.scope.cap);
         self.u64(t.scope.from);
@@ -99,7 +111,7 @@ impl Writer {
     }
 
     fn free_token(&mut self) {
-        self.zeros(4 + 4 + 4 + TEXT + 8 + 1);
+        self.zeros(4 + 4 + 4 + LONGEST_PATH + 8 + 1);
         self.cap(Cap::Bytes(0));
         self.zeros(8 + 8 + 8);
     }
@@ -118,11 +130,11 @@ impl Writer {
         self.u32(s.version);
         self.u64(s.puts.len() as u64);
         for put in &s.puts {
-            self.text(&put.path);
+            self.path(&put.path);
             self.u64(put.size);
             self.0.extend(put.hash);
         }
-        self.zeros((PUTS - s.puts.len()) * (TEXT + 8 + 8 + 32));
+        self.zeros((PUTS - s.puts.len()) * PUT);
     }
 
     /// Each row, by one function where it is taken and another where it is free.
@@ -143,14 +155,14 @@ pub fn desk_bytes(desk: &Desk) -> Vec<u8> {
     w.u64(t.clock);
     w.u16(t.rate);
     w.rows(&t.volumes, Writer::volume, Writer::free_volume);
-    w.rows(&t.entries, Writer::entry, |w| w.zeros(4 + TEXT + 8 + 8 + 32 + 4 * SHARDS + 8));
+    w.rows(&t.entries, Writer::entry, |w| w.zeros(ENTRY));
     w.rows(&t.tokens, Writer::token, Writer::free_token);
-    w.rows(&t.relays, Writer::relay, |w| w.zeros(4 + 8 + 8 + 4 + 8));
+    w.rows(&t.relays, Writer::relay, |w| w.zeros(RELAY));
     w.u32(t.last_volume);
     w.u32(t.last_token);
     w.u32(t.last_relay);
     w.u64(t.deposits);
-    w.rows(&desk.sessions, Writer::session, |w| w.zeros(4 + 4 + 4 + 8 + PUTS * (TEXT + 48)));
+    w.rows(&desk.sessions, Writer::session, |w| w.zeros(SLOT));
     w.0
 }
 
@@ -158,12 +170,12 @@ pub fn desk_bytes(desk: &Desk) -> Vec<u8> {
 pub fn place(at: usize) -> String {
     let parts = [
         ("clock and rate", 1, 10),
-        ("volume row", VOLUMES, 205),
-        ("entry row", ENTRIES, 284),
-        ("token row", TOKENS, 182),
-        ("relay row", RELAYS, 32),
+        ("volume row", VOLUMES, VOLUME),
+        ("entry row", ENTRIES, ENTRY),
+        ("token row", TOKENS, TOKEN),
+        ("relay row", RELAYS, RELAY),
         ("last numbers and deposits", 1, 20),
-        ("slot", SLOTS, 1_428),
+        ("slot", SLOTS, SLOT),
     ];
     let mut at = at;
     for (name, rows, length) in parts {

@@ -8,6 +8,7 @@ pub mod array_desk;
 pub mod call;
 pub mod check;
 pub mod desk;
+pub mod example;
 pub mod journal;
 pub mod layout;
 pub mod random;

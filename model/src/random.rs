@@ -3,7 +3,8 @@
 use crate::amount::Cap;
 use crate::call::{value, Answer, Bytes32, Call, Scope};
 use crate::desk::*;
-use crate::journal;
+use crate::journal::{self, Version};
+use crate::refusal::BAD;
 use std::ops::Range;
 
 pub struct Random(u64);
@@ -264,11 +265,19 @@ fn any_bytes(r: &mut Random) -> Vec<u8> {
 
 // Paths, prefixes and names.
 
+/// Lengths at the limits of names, paths, prefixes and texts.
+const TEXT_EDGES: [usize; 15] =
+    [1, 63, 64, 65, 127, 128, 129, 255, 256, 510, 511, 512, 513, 1_023, 1_024];
+
 /// A text near a path, a prefix or a name.
 pub fn path_text(r: &mut Random) -> Vec<u8> {
     let parts = ["a", "job", ".", "..", "...", "", "~!", "A_b-9", ".a", "x y", "\u{e9}", "\u{7f}"];
     let mut text = match r.below(8) {
-        0 => vec![b'p'; *r.pick(&[1, 63, 64, 65, 127, 128, 129, 255])],
+        0 => {
+            let length = *r.pick(&TEXT_EDGES);
+            let parts = r.chance(50);
+            (0..length).map(|at| if parts && at % 9 == 8 { b'/' } else { b'p' }).collect()
+        }
         1 => vec![r.below(256) as u8],
         2 => (0..r.below(12)).map(|_| *r.pick(b"ab./.-_ ")).collect(),
         3 => r.pick(&NAMES).as_bytes().to_vec(),
@@ -295,6 +304,66 @@ pub fn path_text(r: &mut Random) -> Vec<u8> {
 
 // Histories.
 
+/// Which lengths the texts of a history have.
+#[derive(Clone, Copy, Debug, PartialEq, Eq)]
+pub enum Texts {
+    /// Those that a journal of this version can hold.
+    Of(Version),
+    /// Those of the time when a path had at most 128 bytes: the calls are chosen as if a longer one were still answered 1,
+    /// so that the journals are the same as then, byte for byte. The benchmark runs some of them.
+    UpTo128,
+}
+
+impl Texts {
+    /// About half of the seeds have version 01, the others version 02.
+    pub fn for_seed(seed: u64) -> Texts {
+        Texts::Of(*Random::new(seed ^ 0x7E27).pick(&Version::ALL))
+    }
+
+    /// The version of the journal.
+    pub fn version(self) -> Version {
+        match self {
+            Texts::Of(version) => version,
+            Texts::UpTo128 => Version::One,
+        }
+    }
+
+    /// Lengths of good paths that are long.
+    fn long_paths(self) -> &'static [usize] {
+        match self {
+            Texts::Of(Version::One) => &[127, 128, 129, 129, 200, 254, 255],
+            Texts::Of(Version::Two) => &[127, 128, 129, 129, 200, 255, 256, 511, 512, 512],
+            Texts::UpTo128 => &[126, 127, 128],
+        }
+    }
+
+    /// Lengths of long prefixes without their slash. The longest is not always a prefix.
+    fn long_prefixes(self) -> &'static [usize] {
+        match self {
+            Texts::Of(Version::One) => &[126, 127, 128, 199, 253, 254],
+            Texts::Of(Version::Two) => &[126, 127, 128, 199, 254, 255, 509, 510, 511, 511, 512],
+            Texts::UpTo128 => &[126, 127, 128],
+        }
+    }
+
+    /// Text of a wrong path: too long, or of slashes where no text can be too long for a path.
+    fn wrong_path(self, r: &mut Random) -> Vec<u8> {
+        match self {
+            Texts::Of(Version::One) => vec![b'/'; 255],
+            Texts::Of(Version::Two) => vec![b'p'; *r.pick(&[513, 513, 514, 800, 1_023, 1_024])],
+            Texts::UpTo128 => vec![b'p'; r.between(129, 255) as usize],
+        }
+    }
+
+    /// A length that is too long for a name.
+    fn wrong_name(self, r: &mut Random) -> usize {
+        match self {
+            Texts::Of(Version::Two) => *r.pick(&[65, 127, 128, 129, 255, 256, 512, 513, 1_024]),
+            _ => r.between(65, 255) as usize,
+        }
+    }
+}
+
 /// How a history is inclined.
 struct Habits {
     /// Out of 100: a field is chosen wrong.
@@ -311,6 +380,8 @@ struct Habits {
     crowded: bool,
     /// Time goes on slowly, so that relays stay and sessions are committed.
     steady: bool,
+    /// More of the paths are long.
+    long: bool,
 }
 
 /// Makes a history while running it, so that calls meet the desk as it is.
@@ -318,12 +389,13 @@ pub struct Maker {
     r: Random,
     desk: Desk,
     habits: Habits,
+    texts: Texts,
     calls: Vec<Call>,
 }
 
 /// A history of `most` calls, or a few more.
-pub fn history(seed: u64, rate: u16, most: usize) -> Vec<Call> {
-    let mut maker = Maker::new(seed, rate);
+pub fn history(seed: u64, rate: u16, most: usize, texts: Texts) -> Vec<Call> {
+    let mut maker = Maker::new(seed, rate, texts);
     maker.settle();
     while maker.calls.len() < most {
         maker.act();
@@ -350,7 +422,7 @@ const NAMES: [&str; 9] = ["v", "w", "x", "y.z", ".", "A_b-9", "q", "r", "s"];
 const BAD_NAMES: [&str; 5] = ["", "a b", "a/b", "a,b", "\u{e9}"];
 
 impl Maker {
-    fn new(seed: u64, rate: u16) -> Maker {
+    fn new(seed: u64, rate: u16, texts: Texts) -> Maker {
         let mut r = Random::new(seed);
         let habits = Habits {
             damage: *r.pick(&[0, 2, 4, 8, 20]),
@@ -360,12 +432,18 @@ impl Maker {
             few_relays: r.chance(20),
             crowded: r.chance(15),
             steady: r.chance(40),
+            long: texts != Texts::UpTo128 && r.chance(25),
         };
-        Maker { r, desk: Desk::fresh(rate), habits, calls: Vec::new() }
+        Maker { r, desk: Desk::fresh(rate), habits, texts, calls: Vec::new() }
     }
 
     fn ask(&mut self, call: Call) -> Answer {
-        let answer = self.desk.run(&call);
+        // A path that is too long is answered 1 before all else, and nothing changes.
+        let too_long = |path: &[u8]| self.texts == Texts::UpTo128 && path.len() > 128;
+        let answer = match call.path_or_prefix() {
+            Some(path) if too_long(path) => Err(BAD),
+            _ => self.desk.run(&call),
+        };
         self.calls.push(call);
         answer
     }
@@ -518,17 +596,29 @@ impl Maker {
 
     fn good_path(&mut self) -> Vec<u8> {
         match self.r.below(20) {
-            0 => vec![b'p'; self.r.between(126, 128) as usize],
+            0 => self.long_path(),
+            1..=3 if self.habits.long => self.long_path(),
             1..=3 => format!("job/{}", self.r.below(40)).into_bytes(),
             4..=5 => format!("n{}", self.r.below(80)).into_bytes(),
             _ => self.r.pick(&PATHS).as_bytes().to_vec(),
         }
     }
 
+    /// In most of them a part ends in the middle; the last byte is one of a few.
+    fn long_path(&mut self) -> Vec<u8> {
+        let length = *self.r.pick(self.texts.long_paths());
+        let mut path = vec![b'p'; length];
+        if self.texts != Texts::UpTo128 {
+            path[length / 2] = *self.r.pick(b"//p");
+            path[length - 1] = *self.r.pick(b"pqr");
+        }
+        path
+    }
+
     fn path(&mut self) -> Vec<u8> {
         if self.wrong() {
             return match self.r.below(4) {
-                0 => vec![b'p'; self.r.between(129, 255) as usize],
+                0 => self.texts.wrong_path(&mut self.r),
                 1 => vec![b'a', self.r.below(256) as u8, b'b'],
                 _ => self.r.pick(&BAD_PATHS).as_bytes().to_vec(),
             };
@@ -542,9 +632,17 @@ impl Maker {
         if path.starts_with(prefix) || self.r.chance(5) || self.wrong() {
             return path;
         }
-        let mut under = prefix.to_vec();
-        under.extend(self.r.pick(&["a", "b", "c", "x/y", "..."]).bytes());
-        under
+        let last = *self.r.pick(&["a", "b", "c", "x/y", "..."]);
+        self.under(prefix, last)
+    }
+
+    /// The path of this name under a prefix, or the name alone where the journal cannot hold the whole.
+    fn under(&self, prefix: &[u8], name: &str) -> Vec<u8> {
+        let whole = [prefix, name.as_bytes()].concat();
+        match whole.len() <= self.texts.version().longest_text() {
+            true => whole,
+            false => name.as_bytes().to_vec(),
+        }
     }
 
     fn prefix(&mut self) -> Vec<u8> {
@@ -552,7 +650,7 @@ impl Maker {
             return self.r.pick(&BAD_PREFIXES).as_bytes().to_vec();
         }
         if self.r.chance(3) {
-            let mut long = vec![b'l'; self.r.between(126, 128) as usize];
+            let mut long = vec![b'l'; *self.r.pick(self.texts.long_prefixes())];
             long.push(b'/');
             return long;
         }
@@ -711,7 +809,7 @@ impl Maker {
             _ => self.r.pick(&NAMES).as_bytes().to_vec(),
         };
         let name = match self.wrong() {
-            true if self.r.chance(20) => vec![b'N'; self.r.between(65, 255) as usize],
+            true if self.r.chance(20) => vec![b'N'; self.texts.wrong_name(&mut self.r)],
             true => self.r.pick(&BAD_NAMES).as_bytes().to_vec(),
             false => name,
         };
@@ -787,7 +885,11 @@ impl Maker {
 
     fn narrowed(&mut self, parent: &Scope) -> Scope {
         let mut child = parent.clone();
-        if self.r.chance(20) && child.prefix.len() < 100 {
+        let most = match self.texts {
+            Texts::Of(version) => version.longest_text() - 2,
+            Texts::UpTo128 => 99,
+        };
+        if self.r.chance(20) && child.prefix.len() <= most {
             child.prefix.extend(self.r.pick(&["x/", "a/", "c/"]).bytes());
         }
         if self.r.chance(20) && parent.mode == 2 {
@@ -974,11 +1076,9 @@ impl Maker {
             if self.ask(Call::Open { slot, token }).is_err() {
                 return self.clear_slots();
             }
-            let mut prefix = self.prefix_of_slot(slot);
-            prefix.extend(format!("f{}-", self.r.below(9)).bytes());
+            let (prefix, group) = (self.prefix_of_slot(slot), self.r.below(9));
             for i in 0..self.r.between(7, 9) {
-                let mut path = prefix.clone();
-                path.extend(i.to_string().bytes());
+                let path = self.under(&prefix, &format!("f{group}-{i}"));
                 let (size, hash) = (self.r.below(30), self.hash());
                 self.push(Call::Stage { slot, path, size, hash });
             }
@@ -1210,17 +1310,18 @@ impl Maker {
 
 // Journals.
 
-/// A whole journal of about `most` calls at the program's rate, cut to the longest length.
+/// A whole journal of about `most` calls at the program's rate, cut to the longest length. Its version goes by the seed.
 pub fn whole_journal(seed: u64, most: usize) -> Vec<u8> {
-    cut_journal(seed, most, journal::MOST)
+    cut_journal(seed, most, journal::MOST, Texts::for_seed(seed))
 }
 
 /// The records of a history that fit in a journal of `longest` bytes.
-fn cut_journal(seed: u64, most: usize, longest: usize) -> Vec<u8> {
-    let mut journal = vec![journal::FORMAT];
-    for call in history(seed, RATE, most) {
-        // Every text made here has at most 255 bytes and every mode is known.
-        let record = journal::write_record(&call, usize::MAX).unwrap();
+fn cut_journal(seed: u64, most: usize, longest: usize, texts: Texts) -> Vec<u8> {
+    let version = texts.version().byte();
+    let mut journal = vec![version];
+    for call in history(seed, RATE, most, texts) {
+        // Every text made here fits the version and every mode is known.
+        let record = journal::write_record(version, &call, usize::MAX).unwrap();
         if journal.len() + record.len() <= longest {
             journal.extend(record);
         }
@@ -1228,19 +1329,30 @@ fn cut_journal(seed: u64, most: usize, longest: usize) -> Vec<u8> {
     journal
 }
 
+/// A whole journal whose version and length go by the seed.
+pub fn journal_for(seed: u64) -> Vec<u8> {
+    journal_of(seed, Texts::for_seed(seed))
+}
+
 /// A whole journal whose length goes by the seed: short, of a thousand calls, nearly as long as a journal may be,
 /// or exactly that long.
-pub fn journal_for(seed: u64) -> Vec<u8> {
+pub fn journal_of(seed: u64, texts: Texts) -> Vec<u8> {
     match seed % 8 {
-        0 => whole_journal(seed, 60),
-        1..=3 => whole_journal(seed, 1_000),
-        4..=6 => whole_journal(seed, 4_000),
+        0 => cut_journal(seed, 60, journal::MOST, texts),
+        1..=3 => cut_journal(seed, 1_000, journal::MOST, texts),
+        4..=6 => cut_journal(seed, 4_000, journal::MOST, texts),
         _ => {
-            let mut journal = cut_journal(seed, 4_000, journal::MOST - 40);
+            let mut journal = cut_journal(seed, 4_000, journal::MOST - 40, texts);
             pad_to(&mut journal, journal::MOST);
             journal
         }
     }
+}
+
+/// A checksum of a journal (64-bit FNV-1a), so that the journals made by two versions of this code can be compared.
+pub fn checksum(journal: &[u8]) -> u64 {
+    let step = |sum: u64, byte: &u8| (sum ^ u64::from(*byte)).wrapping_mul(0x100_0000_01B3);
+    journal.iter().fold(0xCBF2_9CE4_8422_2325, step)
 }
 
 /// A journal that is whole, or damaged in one place.
@@ -1287,7 +1399,7 @@ pub fn damaged_journal(r: &mut Random, whole: Vec<u8>) -> Vec<u8> {
 }
 
 /// What `damage` does, by the number that it gives.
-pub const DAMAGES: [&str; 24] = [
+pub const DAMAGES: [&str; 29] = [
     "bit changed",
     "byte changed",
     "cut anywhere",
@@ -1312,6 +1424,11 @@ pub const DAMAGES: [&str; 24] = [
     "record cut, its length too",
     "record made longer, its length too",
     "bytes of one record in another",
+    "version 01 for 02, or 02 for 01",
+    "version 00 or 03",
+    "text's length changed",
+    "text exchanged for one of another length",
+    "text of version 02 longer than 1,024",
 ];
 
 /// Damages a journal in one place. Gives the place in DAMAGES.
@@ -1367,15 +1484,89 @@ pub fn damage(r: &mut Random, journal: &mut Vec<u8>) -> usize {
             let more = vec![r.below(256) as u8; r.between(1, 3) as usize];
             resize_record(journal, one, usize::MAX, &more);
         }
-        _ => {
+        23 => {
             let bytes = journal[other].to_vec();
             let count = bytes.len().min(one.len()) - 2;
             let from = r.index(count + 1);
             journal[start + 2 + from..start + 2 + count]
                 .copy_from_slice(&bytes[2 + from..][..count - from]);
         }
+        24 => journal[0] = if journal[0] == 1 { 2 } else { 1 },
+        25 => journal[0] = *r.pick(&[0, 3]),
+        _ => return damage_text_field(r, journal, kind),
     }
     kind
+}
+
+/// Damages a text's length, or the text with the lengths before it. Gives the place in DAMAGES.
+fn damage_text_field(r: &mut Random, journal: &mut Vec<u8>, kind: usize) -> usize {
+    let version = journal::version(journal).unwrap_or(Version::One);
+    let text_of = |record| text_field(version, journal, record);
+    let found: Vec<TextField> = records(journal).into_iter().filter_map(text_of).collect();
+    if found.is_empty() {
+        journal.push(r.below(256) as u8);
+        return 7;
+    }
+    let text = r.pick(&found);
+    match (kind, version) {
+        (26, _) => {
+            let (old, any) = (text.bytes.len(), r.index(1 << (8 * version.width())));
+            let near = [old + 1, old.saturating_sub(1), old ^ 256];
+            let edges = [0, 1, 255, 256, 512, 1_024, 1_025, any];
+            let length = if r.chance(50) { *r.pick(&near) } else { *r.pick(&edges) };
+            set_number(&mut journal[text.length.clone()], length);
+            26
+        }
+        (28, Version::Two) => {
+            exchange_text(journal, text, *r.pick(&[1_025, 1_025, 1_026, 1_280, 2_000, 30_000]));
+            28
+        }
+        _ => {
+            let fits = |length: &usize| *length <= version.longest_text();
+            let lengths: Vec<usize> = TEXT_EDGES.into_iter().filter(fits).collect();
+            exchange_text(journal, text, *r.pick(&lengths));
+            27
+        }
+    }
+}
+
+/// Where the text of a record stands in its journal.
+struct TextField {
+    record: Range<usize>,
+    length: Range<usize>,
+    bytes: Range<usize>,
+}
+
+/// The text of a record, where its kind has one and it lies in the record.
+fn text_field(version: Version, journal: &[u8], record: Range<usize>) -> Option<TextField> {
+    let body = &journal[record.start + 2..record.end];
+    let before = match body.first()? {
+        0x02 => 1 + 32,
+        0x06 | 0x0D => 1 + 32 + 4,
+        0x07 | 0x0E => 1 + 4,
+        0x0A => 1 + 1,
+        _ => return None,
+    };
+    let length = body.get(before..before + version.width())?;
+    let count = length.iter().fold(0, |high, low| high << 8 | usize::from(*low));
+    let start = record.start + 2 + before;
+    let first = start + version.width();
+    let field = TextField { length: start..first, bytes: first..first + count, record };
+    (field.bytes.end <= field.record.end).then_some(field)
+}
+
+/// Puts a text of this length in the place of another, and sets its length and its record's by it.
+fn exchange_text(journal: &mut Vec<u8>, text: &TextField, length: usize) {
+    let record = text.record.len() - text.bytes.len() + length - 2;
+    journal.splice(text.bytes.clone(), vec![b'p'; length]);
+    set_number(&mut journal[text.length.clone()], length);
+    set_length(journal, text.record.start, record);
+}
+
+/// The last bytes of a number, big-endian, as many as there are places.
+fn set_number(places: &mut [u8], number: usize) {
+    let bytes = number.to_be_bytes();
+    places.copy_from_slice(&bytes[bytes.len() - places.len()..]);
 }
 
 /// Takes the length before the record after this one away, and counts its bytes to this one.
@@ -1396,7 +1587,7 @@ fn resize_record(journal: &mut Vec<u8>, record: Range<usize>, kept: usize, more:
 }
 
 fn set_length(journal: &mut [u8], start: usize, length: usize) {
-    journal[start..start + 2].copy_from_slice(&(length as u16).to_be_bytes());
+    set_number(&mut journal[start..start + 2], length);
 }
 
 fn exchange(journal: &mut Vec<u8>, one: Range<usize>, other: Range<usize>) {
@@ -1411,13 +1602,18 @@ fn exchange(journal: &mut Vec<u8>, one: Range<usize>, other: Range<usize>) {
 
 /// A create with an unknown cap byte, or an attenuate with an unknown mode, at the end.
 fn unknown_cap_or_mode(r: &mut Random, journal: &mut Vec<u8>) {
+    let version = journal::version(journal).unwrap_or(Version::One);
     let byte = if r.chance(50) { 2 } else { r.between(2, 255) as u8 };
-    if r.chance(50) {
-        journal.extend([0, 38, 0x02]);
-        journal.extend([0; 32]);
-        journal.extend([1, b'n', 2, 1, byte]);
+    // How many bytes come after the byte in its record.
+    let (call, after, byte) = if r.chance(50) {
+        let (account, name, cap) = ([0; 32], b"n".to_vec(), Cap::Unlimited);
+        (Call::Create { account, name, k: 2, m: 1, cap }, 0, byte)
     } else {
-        journal.extend([0, 24, 0x07, 0, 0, 0, 1, 0, byte.max(3), 0]);
-        journal.extend([0; 16]);
-    }
+        let scope = Scope { prefix: vec![], mode: 0, cap: Cap::Unlimited, from: 0, until: 0 };
+        (Call::Attenuate { token: 1, scope }, 1 + 8 + 8, byte.max(3))
+    };
+    // The text has a byte at most, and the mode is known.
+    journal.extend(journal::write_record(version.byte(), &call, usize::MAX).unwrap());
+    let place = journal.len() - 1 - after;
+    journal[place] = byte;
 }

@@ -2,7 +2,8 @@
 
 use crate::amount::Cap;
 use crate::call::{Bytes32, Call, Scope};
-use crate::desk::{CHAIN, MOST_CAPACITY, PUTS};
+use crate::desk::{CHAIN, LONGEST_PATH, MOST_CAPACITY, PUTS};
+use crate::journal::Version;
 
 /// The owner of all volumes of these desks.
 pub const OWNER: Bytes32 = [7; 32];
@@ -21,6 +22,14 @@ pub struct Setting {
     pub puts: usize,
     /// How long each path is.
     pub path: usize,
+}
+
+impl Setting {
+    /// The first version of a journal that can hold the paths.
+    pub fn version(&self) -> Version {
+        // No path of a setting is longer than a text of version 02.
+        Version::holding(self.path).unwrap()
+    }
 }
 
 pub const EMPTY: Setting = Setting {
@@ -55,6 +64,9 @@ pub const FULL: Setting = Setting {
     puts: 8,
     path: 128,
 };
+
+/// As FULL with paths as long as they can be. A journal that made it with 8 puts a slot would be too long.
+pub const FULL_LONGEST: Setting = Setting { path: LONGEST_PATH, puts: 5, ..FULL };
 
 /// A path of `length` bytes, 6 or more. The longest common start that different ones can have.
 pub fn path(length: usize, number: usize) -> Vec<u8> {

@@ -3,8 +3,9 @@
 use crate::call::{number, value, Answer, Call};
 use crate::check::Watched;
 use crate::desk::*;
-use crate::random::{history, rate_for};
-use crate::refusal::QUOTA;
+use crate::journal::Version;
+use crate::random::{history, rate_for, Texts};
+use crate::refusal::{BAD, QUOTA};
 use crate::second_list::{holds, FORMS};
 use std::collections::BTreeMap;
 
@@ -53,7 +54,12 @@ pub const NOT_REACHED: [(u8, u32, &str); 6] = [
     (0x0F, 21, "65,535 registers of 11 bytes"),
 ];
 
-pub const EVENTS: [&str; 54] = [
+/// How long a path was at most before version 02 of the journal.
+const OLD_LONGEST_PATH: usize = 128;
+
+pub const EVENTS: [&str; 60] = [
+    "journal of version 01",
+    "journal of version 02",
     "advance below the clock refused",
     "advance past two epoch ends refused",
     "epoch end reached",
@@ -81,12 +87,16 @@ pub const EVENTS: [&str; 54] = [
     "commit refused by an ancestor's cap alone",
     "path staged again",
     "path staged again at 8 puts",
+    "path of 513 bytes refused",
+    "token given with a prefix of 512 bytes",
     "commit of no puts",
     "commit of 8 puts",
     "commit replaced an entry",
     "commit replaced an entry in a full entry table",
     "entry stored with size 0",
     "entry stored with size 2^36",
+    "entry stored with a path above 128 bytes",
+    "entry stored with a path of 512 bytes",
     "entry stored on 24 relays",
     "entry stored with a relay number before one of a lower row",
     "relay left with no room unused",
@@ -181,8 +191,10 @@ impl Observed {
         let dropped = (old.0[1] & !self.rows.0[1]).count_ones();
         match call {
             Call::Delete { .. } => survey.count("delete dropped tokens", dropped.min(1)),
+            Call::Grant { scope, .. } => survey.note_prefix(&scope.prefix),
             Call::Revoke { .. } if dropped > 1 => survey.count("revoke dropped descendants", 1),
-            Call::Attenuate { .. } => {
+            Call::Attenuate { scope, .. } => {
+                survey.note_prefix(&scope.prefix);
                 let chain = self.desk.tables.chain(value(answer) as u32);
                 survey.count("chain of 8 tokens made", u32::from(chain.len() == CHAIN));
             }
@@ -218,8 +230,9 @@ impl Observed {
 impl Survey {
     /// Runs one history with the checks of `Watched` and demand 3, and counts what it reaches.
     pub fn add(&mut self, seed: u64, most: usize) -> Result<(), String> {
-        let rate = rate_for(seed);
-        let calls = history(seed, rate, most);
+        let (rate, texts) = (rate_for(seed), Texts::for_seed(seed));
+        let calls = history(seed, rate, most, texts);
+        self.note_version(texts.version());
         let (mut watched, mut observed) = (Watched::fresh(rate), Observed::fresh(rate));
         for call in &calls {
             let answer = watched.run(call).map_err(|fault| format!("seed {seed}: {fault}"))?;
@@ -238,6 +251,20 @@ impl Survey {
         if times > 0 {
             *self.events.entry(event).or_default() += u64::from(times);
         }
+    }
+
+    /// The version of a journal, or of the journal that a history is made for.
+    pub fn note_version(&mut self, version: Version) {
+        let event = match version {
+            Version::One => "journal of version 01",
+            Version::Two => "journal of version 02",
+        };
+        self.count(event, 1);
+    }
+
+    fn note_prefix(&mut self, prefix: &[u8]) {
+        let longest = prefix.len() == LONGEST_PATH;
+        self.count("token given with a prefix of 512 bytes", u32::from(longest));
     }
 
     fn note_refused(&mut self, call: &Call, number: u32, desk: &Desk) {
@@ -259,6 +286,11 @@ impl Survey {
                 let passes =
                     token.is_some_and(|t| t.scope.cap.is_passed_by(u128::from(t.used) + staged));
                 self.count("commit refused by an ancestor's cap alone", u32::from(!passes));
+            }
+            Call::Stage { path, .. } | Call::Remove { path, .. } | Call::Look { path, .. }
+                if number == BAD && path.len() == LONGEST_PATH + 1 =>
+            {
+                self.count("path of 513 bytes refused", 1);
             }
             _ => {}
         }
@@ -330,6 +362,11 @@ impl Survey {
         for put in puts {
             self.count("entry stored with size 0", u32::from(put.size == 0));
             self.count("entry stored with size 2^36", u32::from(put.size == MOST_SIZE));
+            let length = put.path.len();
+            let above = u32::from(length > OLD_LONGEST_PATH);
+            self.count("entry stored with a path above 128 bytes", above);
+            let longest = u32::from(length == LONGEST_PATH);
+            self.count("entry stored with a path of 512 bytes", longest);
             if let Some(entry) = after.tables.entry(session.volume, &put.path) {
                 self.note_placement(&entry.placement, &after.tables);
             }

@@ -2,13 +2,14 @@
 
 use model::amount::Cap;
 use model::array_desk::{is_path_by_bytes, is_path_by_walks, ArrayDesk, Tester, Text};
-use model::desk::{is_path, Desk, RATE};
-use model::random::{history, path_text, rate_for, Random};
-use model::settings::{calls, EMPTY, FULL, HALF};
+use model::desk::{is_path, Desk, LONGEST_PATH, RATE};
+use model::random::{history, path_text, rate_for, Random, Texts};
+use model::settings::{calls, Setting, EMPTY, FULL, HALF};
 
-fn full() -> ArrayDesk {
+/// The full desk with paths of this length.
+fn full(path: usize) -> ArrayDesk {
     let mut desk = Desk::fresh(RATE);
-    for call in calls(FULL) {
+    for call in calls(Setting { path, ..FULL }) {
         assert!(desk.run(&call).is_ok(), "{call:?}");
     }
     let t = &desk.tables;
@@ -26,7 +27,7 @@ fn full() -> ArrayDesk {
 type Change = fn(&mut ArrayDesk);
 
 /// Each is one step past a limit of the full desk.
-const BROKEN: [(&str, Change); 47] = [
+const BROKEN: [(&str, Change); 48] = [
     ("clock", |d| d.clock = (1 << 40) + 1),
     ("deposits", |d| d.deposits = 1_000_000_000_000_000_001),
     ("last volume number", |d| d.last_volume = 65_536),
@@ -35,8 +36,8 @@ const BROKEN: [(&str, Change); 47] = [
     ("volume number not given", |d| d.volumes[7].no = 9),
     ("volume number twice", |d| d.volumes[7].no = 7),
     ("name twice", |d| d.volumes[7].name = d.volumes[6].name),
-    ("name too long", |d| d.volumes[7].name = Text::new(&[b'n'; 65])),
-    ("name's length outside", |d| d.volumes[7].name.len = 129),
+    ("name empty", |d| d.volumes[7].name = Text::new(b"")),
+    ("name's length outside", |d| d.volumes[7].name.len = 65),
     ("K", |d| d.volumes[7].k = 17),
     ("M", |d| d.volumes[7].m = 0),
     ("volume's cap", |d| d.volumes[7].cap = Cap::Bytes((1 << 36) + 1)),
@@ -47,8 +48,11 @@ const BROKEN: [(&str, Change); 47] = [
     ("DELETED with grace 3", |d| (d.volumes[7].status, d.volumes[7].grace) = (2, 3)),
     ("delete after the clock", |d| (d.volumes[7].status, d.volumes[7].deleted) = (2, 1)),
     ("entry's volume", |d| d.entries[63].volume = 9),
-    ("path ends with a slash", |d| d.entries[63].path.bytes[127] = b'/'),
-    ("path's length outside", |d| d.entries[63].path.len = 129),
+    ("path ends with a slash", |d| {
+        let last = d.entries[63].path.len - 1;
+        d.entries[63].path.bytes[last] = b'/'
+    }),
+    ("path's length outside", |d| d.entries[63].path.len = 513),
     ("path twice", |d| d.entries[63].path = d.entries[0].path),
     ("size", |d| d.entries[63].size = (1 << 36) + 1),
     ("placement too short", |d| d.entries[63].len = 23),
@@ -59,6 +63,7 @@ const BROKEN: [(&str, Change); 47] = [
     ("token number twice", |d| d.tokens[31].no = 1),
     ("token's volume", |d| d.tokens[31].volume = 9),
     ("prefix with no slash", |d| d.tokens[31].prefix.len -= 1),
+    ("prefix's length outside", |d| d.tokens[31].prefix.len = 513),
     ("token's cap", |d| d.tokens[31].cap = Cap::Bytes((1 << 36) + 1)),
     ("from after until", |d| (d.tokens[31].from, d.tokens[31].until) = (2, 1)),
     ("used of a token", |d| d.tokens[31].used = (1 << 60) + 1),
@@ -76,11 +81,12 @@ const BROKEN: [(&str, Change); 47] = [
     ("staged path twice", |d| d.sessions[3].puts[7].path = d.sessions[3].puts[0].path),
 ];
 
-const BROKEN_SLOTS: [(&str, Change); 5] = [
+const BROKEN_SLOTS: [(&str, Change); 6] = [
     ("session's token", |d| d.sessions[3].token = 33),
     ("session's volume", |d| d.sessions[3].volume = 9),
     ("nine puts", |d| d.sessions[3].count = 9),
     ("staged path", |d| d.sessions[3].puts[7].path.bytes[0] = b' '),
+    ("staged path's length outside", |d| d.sessions[3].puts[7].path.len = 513),
     ("staged size", |d| d.sessions[3].puts[7].size = (1 << 36) + 1),
 ];
 
@@ -104,25 +110,25 @@ const SOUND: [(&str, Change); 7] = [
 
 #[test]
 fn one_part_broken() {
-    for is_path in [is_path_by_bytes, is_path_by_walks] {
-        broken_parts(Tester::new(is_path));
+    for path in [128, LONGEST_PATH] {
+        broken_parts(&full(path), Tester::new(is_path_by_bytes));
+        broken_parts(&full(path), Tester::new(is_path_by_walks));
     }
 }
 
-fn broken_parts(mut tester: Tester) {
-    let desk = full();
+fn broken_parts(desk: &ArrayDesk, mut tester: Tester) {
     for (name, change) in BROKEN.iter().chain(&BROKEN_SLOTS) {
         let mut broken = desk.clone();
         change(&mut broken);
         assert!(!tester.test(&broken), "{name}");
         // What was seen of a broken desk does not stay.
-        assert!(tester.test(&desk), "after {name}");
+        assert!(tester.test(desk), "after {name}");
     }
 }
 
 #[test]
 fn still_sound() {
-    let (desk, mut tester) = (full(), Tester::new(is_path_by_walks));
+    let (desk, mut tester) = (full(LONGEST_PATH), Tester::new(is_path_by_walks));
     for (name, change) in SOUND {
         let mut other = desk.clone();
         change(&mut other);
@@ -138,7 +144,7 @@ fn still_sound() {
 /// Free rows and idle slots may hold anything.
 #[test]
 fn free_rows() {
-    let mut desk = full();
+    let mut desk = full(LONGEST_PATH);
     desk.volumes.iter_mut().for_each(|v| v.no = 0);
     desk.entries.iter_mut().for_each(|e| e.volume = 0);
     desk.tokens.iter_mut().for_each(|t| t.no = 0);
@@ -155,7 +161,7 @@ fn every_desk_reached_passes() {
     for seed in 1..=60 {
         let rate = rate_for(seed);
         let mut desk = Desk::fresh(rate);
-        for (place, call) in history(seed, rate, 400).iter().enumerate() {
+        for (place, call) in history(seed, rate, 400, Texts::for_seed(seed)).iter().enumerate() {
             if desk.run(call).is_ok() {
                 assert!(tester.test(&ArrayDesk::from(&desk)), "seed {seed}, call {place}");
             }
@@ -168,7 +174,7 @@ fn paths_in_two_ways() {
     let mut r = Random::new(3);
     for _ in 0..200_000 {
         let mut text = path_text(&mut r);
-        text.truncate(128);
+        text.truncate(LONGEST_PATH);
         let wanted = is_path(&text);
         assert_eq!(
             (is_path_by_bytes(&text), is_path_by_walks(&text)),

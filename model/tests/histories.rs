@@ -1,6 +1,6 @@
 //! Random histories: the self-check after every call, demand 3, and what they reach.
 
-use model::random::{history, rate_for};
+use model::random::{history, rate_for, Texts};
 use model::second_list::{holds, run, second_list, Form};
 use model::survey::{Survey, EVENTS, NOT_REACHED, REACHED};
 
@@ -27,8 +27,9 @@ fn short_histories() {
 #[test]
 fn the_seed_decides() {
     for seed in 1..20 {
-        assert_eq!(history(seed, 100, 200), history(seed, 100, 200));
-        assert_ne!(history(seed, 100, 200), history(seed + 1, 100, 200));
+        let of = |seed| history(seed, 100, 200, Texts::for_seed(seed));
+        assert_eq!(of(seed), of(seed));
+        assert_ne!(of(seed), of(seed + 1));
     }
 }
 
@@ -37,7 +38,7 @@ fn the_seed_decides() {
 fn second_list_of_second_list() {
     for seed in 1..60 {
         let rate = rate_for(seed);
-        let calls = history(seed, rate, 400);
+        let calls = history(seed, rate, 400, Texts::for_seed(seed));
         let (answers, _) = run(&calls, rate);
         let places = second_list(&calls, &answers, Form::Together);
         let second: Vec<_> = places.iter().map(|i| calls[*i].clone()).collect();

@@ -108,14 +108,14 @@ fn grant_in_order() {
         scope("", 3, NONE, 0, 1),
         scope("", BOTH, Cap::Bytes(MOST + 1), 0, 1),
         scope("", BOTH, NONE, 2, 1),
-        scope(&format!("{}/", "p".repeat(128)), BOTH, NONE, 0, 1),
+        scope(&format!("{}/", "p".repeat(512)), BOTH, NONE, 0, 1),
     ];
     for scope in bad {
         case.refuses(grant(BOB, 9, scope), 1);
     }
     case.refuses(grant(BOB, 9, all()), 2);
     case.refuses(grant(BOB, 1, all()), 3);
-    let longest = format!("{}/", "p".repeat(127));
+    let longest = format!("{}/", "p".repeat(511));
     case.gives(grant(ANN, 1, scope(&longest, READ, Cap::Bytes(MOST), u64::MAX, u64::MAX)), 2);
     for number in 3..=32 {
         case.gives(grant(ANN, 1, all()), number);
@@ -256,7 +256,7 @@ fn stage_in_order() {
 #[test]
 fn paths() {
     let mut case = Case::settled();
-    let long = "p".repeat(129);
+    let long = "p".repeat(513);
     let bad = [
         "",
         "/",
@@ -282,11 +282,63 @@ fn paths() {
         case.refuses(remove(BOB, 9, path), 1);
         case.refuses(stage(0, path, 0), 1);
     }
-    for path in ["...", "a/...", ".a", "a.", "..a", "!", "~", "a,b:c", &long[..128]] {
+    for path in ["...", "a/...", ".a", "a.", "..a", "!", "~", "a,b:c", &long[..512]] {
         case.refuses(look(9, path), 4);
         case.refuses(remove(BOB, 9, path), 2);
         case.refuses(stage(0, path, 0), 19);
     }
+}
+
+/// Paths and prefixes on both sides of 128 and of 512 bytes, in each call that has one; names end at 64.
+#[test]
+fn long_paths() {
+    let mut case = Case::settled();
+    let long = "p".repeat(513);
+    let prefix = |length: usize| scope(&format!("{}/", &long[..length - 1]), BOTH, NONE, 0, 9);
+    for length in [64, 65, 128, 129, 511, 512, 513] {
+        let number = if length <= 64 { 0 } else { 1 };
+        assert_eq!(case.ask(create(BOB, &long[..length], 2, 1, NONE)).0, number);
+    }
+    for (token, length) in (2..).step_by(2).zip([128, 129, 511, 512]) {
+        case.gives(grant(ANN, 1, prefix(length)), token);
+        case.gives(attenuate(1, prefix(length)), token + 1);
+        case.refuses(attenuate(token as u32, all()), 17);
+    }
+    case.refuses(grant(ANN, 1, prefix(513)), 1);
+    case.refuses(attenuate(1, prefix(513)), 1);
+    case.accepts(open(0, 1));
+    for (size, length) in (1..).zip([128, 129, 511, 512]) {
+        case.gives(stage(0, &long[..length], size), 0);
+    }
+    case.refuses(stage(0, &long, 5), 1);
+    case.gives(commit(0), 1);
+    for (size, length) in (1..).zip([128, 129, 511, 512]) {
+        case.gives(look(1, &long[..length]), size);
+    }
+    case.refuses(look(1, &long), 1);
+    case.refuses(remove(ANN, 1, &long), 1);
+    for (version, length) in (2..).zip([128, 129, 511, 512]) {
+        case.gives(remove(ANN, 1, &long[..length]), version);
+        case.refuses(look(1, &long[..length]), 15);
+    }
+}
+
+/// A prefix of 512 bytes covers no path; one of 511 covers the paths of one byte more.
+#[test]
+fn the_longest_prefixes() {
+    let mut case = Case::settled();
+    let under = |length: usize| format!("{}/", "p".repeat(length - 1));
+    case.gives(attenuate(1, scope(&under(511), BOTH, NONE, 0, 9)), 2);
+    case.gives(attenuate(1, scope(&under(512), BOTH, NONE, 0, 9)), 3);
+    case.gives(attenuate(2, scope(&under(511), BOTH, NONE, 0, 9)), 4);
+    case.refuses(attenuate(2, scope(&under(512), BOTH, NONE, 0, 9)), 17);
+    case.accepts(open(0, 2));
+    case.gives(stage(0, &format!("{}a", under(511)), 1), 0);
+    case.refuses(stage(0, &format!("{}ab", under(511)), 1), 1);
+    case.refuses(stage(0, &"p".repeat(512), 1), 7);
+    case.accepts(open(1, 3));
+    case.refuses(stage(1, &format!("{}a", under(511)), 1), 7);
+    case.refuses(stage(1, &format!("{}a", under(512)), 1), 1);
 }
 
 #[test]

@@ -3,7 +3,7 @@
 use crate::{in_threads, Shared, Wanted};
 use model::call::{number, value};
 use model::desk::RATE;
-use model::journal::{read_journal, MOST};
+use model::journal::{read_journal, version, Version, MOST};
 use model::layout::{desk_bytes, place};
 use model::random::{damage, journal_for, records, whole_journal, Random, DAMAGES};
 use model::survey::{Observed, Survey};
@@ -16,11 +16,31 @@ const PLACES: usize = 2;
 /// How many damaged journals are made of one whole one.
 const DAMAGED_OF_ONE: u64 = 20;
 
+/// How many journals had version 01, and how many version 02.
+#[derive(Clone, Copy, Default)]
+struct Versions([u64; 2]);
+
+impl Versions {
+    fn add(&mut self, version: Version, times: u64) {
+        self.0[version as usize] += times;
+    }
+
+    fn merge(&mut self, other: Versions) {
+        self.0.iter_mut().zip(other.0).for_each(|(mine, more)| *mine += more);
+    }
+
+    fn shown(self) -> String {
+        format!("{} of version 01 and {} of version 02", self.0[0], self.0[1])
+    }
+}
+
 /// What was compared.
 #[derive(Default)]
 struct Figures {
     survey: Survey,
     whole: u64,
+    /// Whole journals by their version, and the whole ones that damaged journals were made of.
+    versions: Versions,
     longest: u64,
     places: u64,
     place_calls: u64,
@@ -35,6 +55,7 @@ impl Figures {
     fn merge(&mut self, other: &Figures) {
         self.survey.merge(&other.survey);
         self.whole += other.whole;
+        self.versions.merge(other.versions);
         self.longest += other.longest;
         self.places += other.places;
         self.place_calls += other.place_calls;
@@ -129,6 +150,8 @@ impl Library {
 /// A whole journal, and the journals of its first records.
 fn whole(library: &mut Library, figures: &mut Figures, seed: u64) -> Result<u64, String> {
     let journal = journal_for(seed);
+    // Every journal made here has a known version.
+    let version = version(&journal).unwrap();
     let found = records(&journal);
     let mut r = Random::new(seed ^ 0x5EED);
     let places: Vec<usize> = (0..PLACES).map(|_| r.index(found.len())).collect();
@@ -147,6 +170,8 @@ fn whole(library: &mut Library, figures: &mut Figures, seed: u64) -> Result<u64,
         figures.places += 1;
         figures.place_calls += *records as u64;
     }
+    figures.survey.note_version(version);
+    figures.versions.add(version, 1);
     figures.whole += 1;
     figures.longest += u64::from(journal.len() == MOST);
     Ok(model.calls)
@@ -157,6 +182,8 @@ fn damaged(library: &mut Library, figures: &mut Figures, seed: u64) -> Result<()
     let mut r = Random::new(seed ^ 0xDA3A);
     let calls = r.between(2, 60) as usize;
     let whole = whole_journal(seed, calls);
+    // Every journal made here has a known version.
+    figures.versions.add(version(&whole).unwrap(), DAMAGED_OF_ONE);
     for variant in 0..DAMAGED_OF_ONE {
         let mut journal = whole.clone();
         let times = if r.chance(15) { 2 } else { 1 };
@@ -203,6 +230,7 @@ pub fn compare(wanted: &Wanted) -> Result<Survey, String> {
         "whole journals: {} of {} calls, seeds {} to {last}, {} of them exactly {MOST} bytes",
         found.whole, found.survey.calls, wanted.seed, found.longest
     );
+    println!("  {}", found.versions.shown());
     println!(
         "  and the first records of them: {} journals, {} calls",
         found.places, found.place_calls
@@ -221,6 +249,7 @@ pub fn compare(wanted: &Wanted) -> Result<Survey, String> {
         "damaged journals: {} of {} calls before the damage, seeds {} to {last}, {DAMAGED_OF_ONE} of each",
         figures.damaged, figures.damaged_calls, wanted.seed
     );
+    println!("  made of whole ones, {}", figures.versions.shown());
     for (number, times) in &figures.ends {
         match number {
             0 => println!("{times:>12}  end as whole journals"),

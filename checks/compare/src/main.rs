@@ -1,7 +1,7 @@
 //! compare [CALLS [DAMAGED [TEXTS [SEED [THREADS]]]]]: compares the library with the model.
 //!
-//! Whole journals until CALLS calls are run: the transcript and the desk as bytes, after the whole journal and at places
-//! in it. DAMAGED damaged journals: transcript and desk. TEXTS texts: as an amount, a path, a prefix and a name.
+//! Whole journals of both versions until CALLS calls are run: the transcript and the desk as bytes, after the whole journal
+//! and at places in it. DAMAGED damaged journals: transcript and desk. TEXTS texts: as an amount, a path, a prefix and a name.
 //! Prints what was compared and what the journals reached. Ends with 1 at a difference, and where something of the
 //! survey's list was never met.
 

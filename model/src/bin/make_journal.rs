@@ -14,6 +14,10 @@ fn main() {
         _ => 1_000,
     };
     let journal = model::random::any_journal(seed, calls);
-    eprintln!("seed {seed}, {} bytes", journal.len());
+    let version = match model::journal::version(&journal) {
+        Ok(version) => format!("version {:02X}", version.byte()),
+        Err(_) => "no known version".to_string(),
+    };
+    eprintln!("seed {seed}, {} bytes, {version}", journal.len());
     std::io::stdout().write_all(&journal).unwrap();
 }
