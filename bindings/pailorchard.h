@@ -29,18 +29,18 @@ enum {
  * of which at most 65,536 count. */
 size_t pailorchard_replay_room(size_t journal_len);
 
-/* Replays a journal on a fresh desk at rate 100.
+/* Replays a journal, of version 01 or 02, on a fresh desk at rate 100.
  * 0: the transcript (the lines "desk 1", one for each record, and "end" or "stop") stands at the start of `out`, with no
  *    byte 0 after it, `*written` is its length, and the bytes of `out` after it are as they were. A journal that is
  *    damaged or too long is no refusal: the last line of its transcript says where and why it stops.
  * 12: `out_len` is less than pailorchard_replay_room(journal_len); `out` and `*written` are as they were. */
 uint32_t pailorchard_replay(const uint8_t *journal, size_t journal_len, uint8_t *out, size_t out_len, size_t *written);
 
-/* How many bytes the desk takes: 32,406. */
+/* How many bytes the desk takes: 81,046. */
 size_t pailorchard_desk_room(void);
 
 /* Replays a journal as pailorchard_replay does, and gives the desk after it (after the last whole record before a fault).
- * 0: `transcript` and `*written` as pailorchard_replay leaves them; the first 32,406 bytes of `desk` are the desk, every
+ * 0: `transcript` and `*written` as pailorchard_replay leaves them; the first 81,046 bytes of `desk` are the desk, every
  *    row and slot in the layout of docs/OUTSIDE_CHECKS.md, and the bytes of `desk` after them are as they were.
  * 12: `transcript_len` is less than pailorchard_replay_room(journal_len), or `desk_len` is less than
  *    pailorchard_desk_room(); both buffers and `*written` are as they were. */
@@ -58,10 +58,10 @@ uint32_t pailorchard_read_amount(const uint8_t *text, size_t len, bool *limited,
  * 24: above 2^36, checked first. 12: the text is longer than `out_len`. Then `out` and `*written` are as they were. */
 uint32_t pailorchard_write_amount(bool limited, uint64_t bytes, uint8_t *out, size_t out_len, size_t *written);
 
-/* Whether a text is a path: 1 to 128 bytes in 0x21..0x7E, and no part between "/" is empty, "." or "..". */
+/* Whether a text is a path: 1 to 512 bytes in 0x21..0x7E, and no part between "/" is empty, "." or "..". */
 bool pailorchard_is_path(const uint8_t *text, size_t len);
 
-/* Whether a text is a prefix: empty, or a path followed by "/", at most 128 bytes in all. */
+/* Whether a text is a prefix: empty, or a path followed by "/", at most 512 bytes in all. */
 bool pailorchard_is_prefix(const uint8_t *text, size_t len);
 
 /* Whether a text is a volume's name: 1 to 64 bytes of a-z A-Z 0-9 _ - . */

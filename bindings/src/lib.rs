@@ -113,7 +113,7 @@ pub fn desk_room() -> usize {
     unsafe { raw::pailorchard_desk_room() }
 }
 
-/// Writes the transcript of a journal at the start of `out` and gives its length. Refused with 12 where `out` is
+/// Writes the transcript of a journal, of version 01 or 02, at the start of `out` and gives its length. Refused with 12 where `out` is
 /// shorter than `replay_room` of the journal's length.
 pub fn replay_into(journal: &[u8], out: &mut [u8]) -> Result<usize, Refusal> {
     let mut written = 0;
@@ -195,13 +195,13 @@ pub fn write_amount(amount: Amount, out: &mut [u8]) -> Result<usize, Refusal> {
     accepted(number, written)
 }
 
-/// 1 to 128 bytes in 0x21..0x7E whose parts between "/" are not empty, "." or "..".
+/// 1 to 512 bytes in 0x21..0x7E whose parts between "/" are not empty, "." or "..".
 pub fn is_path(text: &[u8]) -> bool {
     // SAFETY: see above.
     unsafe { raw::pailorchard_is_path(text.as_ptr(), text.len()) }
 }
 
-/// Empty, or a path followed by "/", at most 128 bytes in all.
+/// Empty, or a path followed by "/", at most 512 bytes in all.
 pub fn is_prefix(text: &[u8]) -> bool {
     // SAFETY: see above.
     unsafe { raw::pailorchard_is_prefix(text.as_ptr(), text.len()) }

@@ -7,10 +7,19 @@ const JOURNAL: [u8; 12] = [0x01, 0x00, 0x09, 0x01, 0, 0, 0, 0, 0, 0, 0x0E, 0x10]
 const TRANSCRIPT: &[u8] = b"desk 1\n1 0 3600\nend 1\n";
 /// What the buffers hold before a call.
 const OLD: u8 = 0xA5;
-const DESK: usize = 32_406;
+const DESK: usize = 81_046;
 
 fn day() -> Vec<u8> {
     std::fs::read(concat!(env!("CARGO_MANIFEST_DIR"), "/../examples/day.journal")).unwrap()
+}
+
+fn long_paths() -> Vec<u8> {
+    std::fs::read(concat!(env!("CARGO_MANIFEST_DIR"), "/../examples/long-paths.journal")).unwrap()
+}
+
+fn long_paths_transcript() -> Vec<u8> {
+    let name = concat!(env!("CARGO_MANIFEST_DIR"), "/../examples/long-paths.transcript");
+    std::fs::read(name).unwrap()
 }
 
 fn day_transcript() -> Vec<u8> {
@@ -32,12 +41,42 @@ fn rooms() {
 fn replays() {
     assert_eq!(replay(&JOURNAL).unwrap(), TRANSCRIPT);
     assert_eq!(replay(&day()).unwrap(), day_transcript());
+    assert_eq!(replay(&long_paths()).unwrap(), long_paths_transcript());
     assert_eq!(replay(&[0x01]).unwrap(), b"desk 1\nend 0\n");
-    // No version, another one, a cut record, and one byte too many.
+    assert_eq!(replay(&[0x02]).unwrap(), b"desk 1\nend 0\n");
+    // No version, other ones, a cut record, and one byte too many.
     assert_eq!(replay(&[]).unwrap(), b"desk 1\nstop 0 28\n");
-    assert_eq!(replay(&[0x02]).unwrap(), b"desk 1\nstop 0 28\n");
+    for other in [0x00, 0x03, 0xFF] {
+        assert_eq!(replay(&[other]).unwrap(), b"desk 1\nstop 0 28\n");
+    }
     assert_eq!(replay(&JOURNAL[..11]).unwrap(), b"desk 1\nstop 0 27\n");
     assert_eq!(replay(&[0x01; 65_537]).unwrap(), b"desk 1\nstop 0 24\n");
+}
+
+/// A look at a path of so many bytes, in version 01 or 02.
+fn look(version: u8, length: usize) -> Vec<u8> {
+    let width = usize::from(version);
+    let body = 1 + 4 + width + length;
+    let mut journal = vec![version];
+    journal.extend((body as u16).to_be_bytes());
+    journal.extend([0x0E, 0, 0, 0, 1]);
+    journal.extend(&length.to_be_bytes()[size_of::<usize>() - width..]);
+    journal.resize(3 + body, b'p');
+    journal
+}
+
+/// There is no token, so a path is answered 4, and a text that is no path 1. A text above 1,024 bytes is no record.
+#[test]
+fn paths_in_journals() {
+    for (version, length) in [(1, 128), (1, 129), (1, 255), (2, 1), (2, 255), (2, 256), (2, 512)] {
+        assert_eq!(replay(&look(version, length)).unwrap(), b"desk 1\n1 4 0\nend 1\n");
+    }
+    for (version, length) in [(1, 0), (2, 0), (2, 513), (2, 1_024)] {
+        assert_eq!(replay(&look(version, length)).unwrap(), b"desk 1\n1 1 0\nend 1\n");
+    }
+    for length in [1_025, 1_026, 60_000] {
+        assert_eq!(replay(&look(2, length)).unwrap(), b"desk 1\nstop 0 27\n");
+    }
 }
 
 #[test]
@@ -84,6 +123,14 @@ fn desks() {
     assert_eq!(day.transcript, day_transcript());
     // The first volume is number 1.
     assert_eq!(&day.desk[10..14], [0, 0, 0, 1]);
+    // The first entry row is free again, and the second has a path of 512 bytes: its length comes after it.
+    let after = desk_after(&long_paths()).unwrap();
+    assert_eq!(after.transcript, long_paths_transcript());
+    let entries = &after.desk[10 + 8 * 141..][..64 * 668];
+    assert!(entries[..668].iter().all(|b| *b == 0));
+    assert_eq!(entries[668..][..4], [0, 0, 0, 1]);
+    assert!(is_path(&entries[668 + 4..][..512]));
+    assert_eq!(entries[668 + 516..][..8], 512u64.to_be_bytes());
 }
 
 #[test]
@@ -197,20 +244,23 @@ fn amounts_not_written() {
 
 #[test]
 fn texts() {
-    let long = [b'p'; 300];
-    for path in [&b"a"[..], b"job/a", b"...", b"~/!", &long[..128]] {
+    let long = [b'p'; 1_100];
+    let [old, more, longest] = [128, 129, 512].map(|length| &long[..length]);
+    for path in [&b"a"[..], b"job/a", b"...", b"~/!", old, more, &long[..511], longest] {
         assert!(is_path(path) && !is_prefix(path));
     }
     for text in
-        [&b""[..], b"/", b"/a", b"a/", b"a//b", b".", b"a/..", b"a b", &[0x7F], &long[..129]]
+        [&b""[..], b"/", b"/a", b"a/", b"a//b", b".", b"a/..", b"a b", &[0x7F], &long[..513], &long]
     {
         assert!(!is_path(text));
     }
-    let longest = [&long[..127], b"/"].concat();
-    for prefix in [&b""[..], b"job/", b"a/b/", &longest] {
+    for length in [127, 128, 129, 511] {
+        assert!(is_prefix(&[&long[..length], b"/"].concat()));
+    }
+    for prefix in [&b""[..], b"job/", b"a/b/"] {
         assert!(is_prefix(prefix));
     }
-    let too_long = [&long[..128], b"/"].concat();
+    let too_long = [&long[..512], b"/"].concat();
     for text in [&b"/"[..], b"job", b"//", b"../", b"a//", &too_long, &long] {
         assert!(!is_prefix(text));
     }
@@ -240,9 +290,11 @@ fn tests_of_the_desk() {
 #[test]
 fn stack() {
     let run = || {
-        let (day, mut transcript) = (day(), vec![0; replay_room(65_536)]);
-        assert!(replay(&day).is_ok() && desk_after(&day).is_ok());
-        assert_eq!(test_desk(&day, &mut transcript, 2), 2);
+        let mut transcript = vec![0; replay_room(65_536)];
+        for journal in [day(), long_paths()] {
+            assert!(replay(&journal).is_ok() && desk_after(&journal).is_ok());
+            assert_eq!(test_desk(&journal, &mut transcript, 2), 2);
+        }
     };
     let thread = std::thread::Builder::new().stack_size(1 << 20).spawn(run);
     thread.unwrap().join().unwrap();
