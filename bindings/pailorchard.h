@@ -5,7 +5,7 @@
  *
  * A function that answers a uint32_t answers 0, or the number of a refusal; a refusal leaves all that was lent as it was.
  *
- * The functions that replay a journal keep the desk on the stack: a thread that calls them needs 1 MB of it.
+ * The functions that replay a journal keep the desk on the stack: a thread that calls them needs 2 MB of it.
  */
 #ifndef PAILORCHARD_H
 #define PAILORCHARD_H

@@ -1,7 +1,7 @@
 //! Safe functions over the proved static library of the storage desk.
 //!
 //! `pailorchard.h` says of each C function what it answers and what it leaves in the buffers. What is written is only
-//! what was lent, and a refusal writes nothing. The functions that replay a journal need 1 MB of stack.
+//! what was lent, and a refusal writes nothing. The functions that replay a journal need 2 MB of stack.
 
 use std::fmt;
 

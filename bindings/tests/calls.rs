@@ -286,7 +286,7 @@ fn tests_of_the_desk() {
     assert_eq!(test_desk(&[], &mut transcript, 5), 5);
 }
 
-/// One megabyte of stack is enough for the functions that replay a journal.
+/// Two megabytes of stack are enough for the functions that replay a journal.
 #[test]
 fn stack() {
     let run = || {
@@ -296,7 +296,7 @@ fn stack() {
             assert_eq!(test_desk(&journal, &mut transcript, 2), 2);
         }
     };
-    let thread = std::thread::Builder::new().stack_size(1 << 20).spawn(run);
+    let thread = std::thread::Builder::new().stack_size(2 << 20).spawn(run);
     thread.unwrap().join().unwrap();
 }
 

@@ -5,7 +5,8 @@ use Prim.Native.Nat.{ℕ, _+_, _*_}
 use Rattle.amount.specs.declared.Cap.{Cap}
 use Rattle.amount.specs.declared.Cap.the-variants.{Unlimited, Bytes}
 use Rattle.text.specs.declared.Text.{Text}
-use Rattle.text.specs.Text.{pathLimit}
+use Rattle.text.specs.declared.name.Name.{Name}
+use Rattle.text.specs.Text.{pathLimit, nameLimit}
 use Rattle.rules.specs.declared.RelayNo.{RelayNo}
 use Rattle.rules.specs.declared.Placement.{Placement}
 use Rattle.rules.specs.declared.Status.{Status}
@@ -23,12 +24,19 @@ use Rattle.rules.specs.Limits.{volumeRows, entryRows, tokenRows, relayRows, slo
 use Rattle.rules.specs.Scope.{modeNumber}
 use Rattle.journal.specs.Numbers.{bytesOf}
 
--- text: its 128 bytes, then its length, 8 bytes. 136 in all.
+-- text: its 512 bytes, then its length, 8 bytes. 520 in all.
 unfoldable pub textBytesAll : Text → List ℕ
 textBytesAll t = t .bytes ++ bytesOf 8 (t .len)
 
 abbrev pub textLength : ℕ
 textLength = pathLimit + 8
+
+-- name: its 64 bytes, then its length, 8 bytes. 72 in all.
+unfoldable pub nameBytesAll : Name → List ℕ
+nameBytesAll t = t .bytes ++ bytesOf 8 (t .len)
+
+abbrev pub nameLength : ℕ
+nameLength = nameLimit + 8
 
 -- account, hash: 32 bytes.
 abbrev pub hashLength : ℕ
@@ -59,17 +67,17 @@ placementBytes p = flatMap relayNoBytes (p .relays) ++ bytesOf 8 (p .len)
 abbrev pub placementLength : ℕ
 placementLength = shardPlaces * 4 + 8
 
--- volume row: no 4, owner 32, name 136, k 1, m 1, cap 9, status 1, balance 8, version 4, grace 1, deleted 8. 205.
+-- volume row: no 4, owner 32, name 72, k 1, m 1, cap 9, status 1, balance 8, version 4, grace 1, deleted 8. 141.
 unfoldable pub volumeBytes : Volume → List ℕ
 volumeBytes v =
-    (bytesOf 4 (v .no .0) ++ v .owner .0 ++ textBytesAll (v .name))
+    (bytesOf 4 (v .no .0) ++ v .owner .0 ++ nameBytesAll (v .name))
     ++ (bytesOf 1 (v .k) ++ bytesOf 1 (v .m) ++ capBytes (v .cap) ++ bytesOf 1 (statusNumber (v .status)))
     ++ (bytesOf 8 (v .balance) ++ bytesOf 4 (v .version) ++ bytesOf 1 (v .grace) ++ bytesOf 8 (v .deleted))
 
 abbrev pub volumeLength : ℕ
-volumeLength = 4 + hashLength + textLength + 1 + 1 + capLength + 1 + 8 + 4 + 1 + 8
+volumeLength = 4 + hashLength + nameLength + 1 + 1 + capLength + 1 + 8 + 4 + 1 + 8
 
--- entry row: volume 4, path 136, size 8, hash 32, placement 104. 284.
+-- entry row: volume 4, path 520, size 8, hash 32, placement 104. 668.
 unfoldable pub entryBytes : Entry → List ℕ
 entryBytes e =
     bytesOf 4 (e .volume .0) ++ textBytesAll (e .path) ++ bytesOf 8 (e .size) ++ e .hash .0 ++ placementBytes (e .placement)
@@ -77,7 +85,7 @@ entryBytes e =
 abbrev pub entryLength : ℕ
 entryLength = 4 + textLength + 8 + hashLength + placementLength
 
--- scope: prefix 136, mode 1, cap 9, from 8, until 8; the mode is one byte, 0 read, 1 write, 2 both.
+-- scope: prefix 520, mode 1, cap 9, from 8, until 8; the mode is one byte, 0 read, 1 write, 2 both.
 unfoldable pub scopeBytes : Scope → List ℕ
 scopeBytes s =
     textBytesAll (s .prefix) ++ bytesOf 1 (modeNumber (s .mode)) ++ capBytes (s .cap) ++ bytesOf 8 (s .«from») ++ bytesOf 8 (s .until)
@@ -85,7 +93,7 @@ scopeBytes s =
 abbrev pub scopeLength : ℕ
 scopeLength = textLength + 1 + capLength + 8 + 8
 
--- token row: no 4, volume 4, parent 4, prefix 136, mode 1, cap 9, from 8, until 8, used 8. 182.
+-- token row: no 4, volume 4, parent 4, prefix 520, mode 1, cap 9, from 8, until 8, used 8. 566.
 unfoldable pub tokenBytes : Token → List ℕ
 tokenBytes t =
     bytesOf 4 (t .no .0) ++ bytesOf 4 (t .volume .0) ++ bytesOf 4 (t .parent .0) ++ scopeBytes (t .scope) ++ bytesOf 8 (t .used)
@@ -100,14 +108,14 @@ relayBytes r = bytesOf 4 (r .no .0) ++ bytesOf 8 (r .capacity) ++ bytesOf 8 (r .
 abbrev pub relayLength : ℕ
 relayLength = 4 + 8 + 8 + 4 + 8
 
--- put: path 136, size 8, hash 32. 176.
+-- put: path 520, size 8, hash 32. 560.
 unfoldable pub putBytes : Put → List ℕ
 putBytes p = textBytesAll (p .path) ++ bytesOf 8 (p .size) ++ p .hash .0
 
 abbrev pub putLength : ℕ
 putLength = textLength + 8 + hashLength
 
--- session slot: token 4, volume 4, version 4, count 8, 8 puts. 1,428.
+-- session slot: token 4, volume 4, version 4, count 8, 8 puts. 4,500.
 unfoldable pub sessionBytes : Session → List ℕ
 sessionBytes s =
     bytesOf 4 (s .token .0) ++ bytesOf 4 (s .volume .0) ++ bytesOf 4 (s .version) ++ bytesOf 8 (s .count) ++ flatMap putBytes (s .puts)
@@ -115,7 +123,7 @@ sessionBytes s =
 abbrev pub sessionLength : ℕ
 sessionLength = 4 + 4 + 4 + 8 + putRows * putLength
 
--- desk: clock 8, rate 2, 8 volumes (1,640), 64 entries (18,176), 32 tokens (5,824), 32 relays (1,024), last_volume 4, last_token 4,
+-- desk: clock 8, rate 2, 8 volumes (1,128), 64 entries (42,752), 32 tokens (18,112), 32 relays (1,024), last_volume 4, last_token 4,
 -- last_relay 4, deposits 8
 unfoldable pub tablesBytes : Tables → List ℕ
 tablesBytes t =
@@ -127,7 +135,7 @@ abbrev pub tablesLength : ℕ
 tablesLength =
     (8 + 2 + volumeRows * volumeLength + entryRows * entryLength) + (tokenRows * tokenLength + relayRows * relayLength + (4 + 4 + 4 + 8))
 
--- then 4 session slots (5,712). 32,406 bytes in all.
+-- then 4 session slots (18,000). 81,046 bytes in all.
 unfoldable pub deskBytes : Desk → List ℕ
 deskBytes d = tablesBytes (d .tables) ++ flatMap sessionBytes (d .sessions)
 

@@ -13,7 +13,8 @@ use Rattle.amount.specs.declared.Cap.the-variants.{Unlimited, Bytes}
 use Rattle.lists.specs.Lists.{allOf}
 use Rattle.lists.specs.BoolLaws.{and-left, and-right}
 use Rattle.text.specs.declared.Text.{Text}
-use Rattle.text.specs.Text.{pathLimit}
+use Rattle.text.specs.declared.name.Name.{Name}
+use Rattle.text.specs.Text.{pathLimit, nameLimit}
 use Rattle.rules.specs.declared.Placement.{Placement}
 use Rattle.rules.specs.declared.Volume.{Volume}
 use Rattle.rules.specs.declared.Entry.{Entry}
@@ -27,12 +28,15 @@ use Rattle.rules.specs.declared.Desk.{Desk}
 use Rattle.rules.specs.Limits.{volumeRows, entryRows, tokenRows, relayRows, slotRows, putRows, shardPlaces}
 use Rattle.journal.specs.Numbers.{bytesOf}
 use Rattle.journal.specs.NumberLaws.{length-bytesOf}
-use Rattle.desk_bytes.specs.Layout.{textBytesAll, textLength, hashLength, relayNoBytes, capBytes, capLength, placementBytes, placementLength, volumeBytes, volumeLength, entryBytes, entryLength, scopeBytes, scopeLength, tokenBytes, tokenLength, relayBytes, relayLength, putBytes, putLength, sessionBytes, sessionLength, tablesBytes, tablesLength, deskBytes, deskLength}
+use Rattle.desk_bytes.specs.Layout.{textBytesAll, textLength, nameBytesAll, nameLength, hashLength, relayNoBytes, capBytes, capLength, placementBytes, placementLength, volumeBytes, volumeLength, entryBytes, entryLength, scopeBytes, scopeLength, tokenBytes, tokenLength, relayBytes, relayLength, putBytes, putLength, sessionBytes, sessionLength, tablesBytes, tablesLength, deskBytes, deskLength}
 
 -- ---- the totals
 
-pub text-total : textLength ≡ 136
+pub text-total : textLength ≡ 520
 text-total = refl
+
+pub name-total : nameLength ≡ 72
+name-total = refl
 
 pub cap-total : capLength ≡ 9
 cap-total = refl
@@ -40,29 +44,29 @@ cap-total = refl
 pub placement-total : placementLength ≡ 104
 placement-total = refl
 
-pub volume-total : volumeLength ≡ 205
+pub volume-total : volumeLength ≡ 141
 volume-total = refl
 
-pub entry-total : entryLength ≡ 284
+pub entry-total : entryLength ≡ 668
 entry-total = refl
 
-pub token-total : tokenLength ≡ 182
+pub token-total : tokenLength ≡ 566
 token-total = refl
 
 pub relay-total : relayLength ≡ 32
 relay-total = refl
 
-pub put-total : putLength ≡ 176
+pub put-total : putLength ≡ 560
 put-total = refl
 
-pub session-total : sessionLength ≡ 1428
+pub session-total : sessionLength ≡ 4500
 session-total = refl
 
-pub desk-total : deskLength ≡ 32406
+pub desk-total : deskLength ≡ 81046
 desk-total = refl
 
--- its 136 texts, and all else
-pub desk-texts : deskLength ≡ 136 * pathLimit + 14998
+-- its 128 paths and prefixes, its 8 names, and all else
+pub desk-texts : deskLength ≡ 128 * pathLimit + 8 * nameLimit + 14998
 desk-texts = refl
 
 -- ---- every array has as many elements as its type says
@@ -73,11 +77,14 @@ isSized l n = eqb (length l) n
 abbrev pub textSized : Text → Bool
 textSized t = isSized (t .bytes) pathLimit
 
+abbrev pub nameSized : Name → Bool
+nameSized t = isSized (t .bytes) nameLimit
+
 abbrev pub placementSized : Placement → Bool
 placementSized p = isSized (p .relays) shardPlaces
 
 abbrev pub volumeSized : Volume → Bool
-volumeSized v = isSized (v .owner .0) hashLength && textSized (v .name)
+volumeSized v = isSized (v .owner .0) hashLength && nameSized (v .name)
 
 abbrev pub entrySized : Entry → Bool
 entrySized e = textSized (e .path) && isSized (e .hash .0) hashLength && placementSized (e .placement)
@@ -138,6 +145,10 @@ text-long : (t : Text) → textSized t ≡ true → Long textLength (textBytesAl
 unfolding textBytesAll
 text-long t h = simp (length-append, length-bytesOf, sized (t .bytes) pathLimit h)
 
+name-long : (t : Name) → nameSized t ≡ true → Long nameLength (nameBytesAll t)
+unfolding nameBytesAll
+name-long t h = simp (length-append, length-bytesOf, sized (t .bytes) nameLimit h)
+
 cap-long : (c : Cap) → Long capLength (capBytes c)
 unfolding capBytes
 cap-long Unlimited = simp (length-append, length-bytesOf)
@@ -153,8 +164,8 @@ placement-long p h =
 volume-long : (v : Volume) → volumeSized v ≡ true → Long volumeLength (volumeBytes v)
 unfolding volumeBytes
 volume-long v h =
-    let owner = sized (v .owner .0) hashLength (and-left (isSized (v .owner .0) hashLength) (textSized (v .name)) h) in
-    let name = text-long (v .name) (and-right (isSized (v .owner .0) hashLength) (textSized (v .name)) h) in
+    let owner = sized (v .owner .0) hashLength (and-left (isSized (v .owner .0) hashLength) (nameSized (v .name)) h) in
+    let name = name-long (v .name) (and-right (isSized (v .owner .0) hashLength) (nameSized (v .name)) h) in
     simp (length-append, length-bytesOf, owner, name, cap-long)
 
 entry-long : (e : Entry) → entrySized e ≡ true → Long entryLength (entryBytes e)

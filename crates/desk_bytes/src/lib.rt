@@ -13,10 +13,11 @@ mod tables;
 use desk::put_desk;
 use rules::Desk;
 use rules::numbers::ROOM;
+use text::NAME_LIMIT;
 use text::PATH_LIMIT;
 
-// How many bytes a desk has: its 136 texts, and all else.
-pub const DESK_BYTES: usize = 136 * PATH_LIMIT + 14_998;
+// How many bytes a desk has: its 128 paths and prefixes, its 8 names, and all else.
+pub const DESK_BYTES: usize = 128 * PATH_LIMIT + 8 * NAME_LIMIT + 14_998;
 
 // The same, for a caller that lends the buffer.
 pub fn desk_room() -> usize

@@ -3,10 +3,10 @@ ghost use mathlib.Core.Path.{_≡_};
 ghost use mathlib.Core.List.{_++_};
 ghost use Prim.Native.Nat.{_+_, _≤_};
 ghost use lib.ListN.{length};
-ghost use Rattle.text.specs.Text.{pathLimit};
+ghost use Rattle.text.specs.Text.{pathLimit, nameLimit};
 ghost use Rattle.rules.specs.Scope.{modeNumber};
 ghost use Rattle.journal.specs.Numbers.{bytesOf};
-ghost use Rattle.desk_bytes.specs.Layout.{hashLength, textBytesAll, textLength, capBytes, capLength, statusNumber, placementBytes, placementLength};
+ghost use Rattle.desk_bytes.specs.Layout.{hashLength, textBytesAll, textLength, nameBytesAll, nameLength, capBytes, capLength, statusNumber, placementBytes, placementLength};
 ghost use Rattle.desk_bytes.specs.Written.{Wrote};
 use super::tables::put_relay_numbers;
 use amount::Cap;
@@ -15,8 +15,10 @@ use rules::Hash;
 use rules::Mode;
 use rules::Placement;
 use rules::Status;
+use text::NAME_LIMIT;
 use text::PATH_LIMIT;
 use text::Text;
+use text::name::Name;
 
 // A number in `w` bytes, the last byte first.
 fn put_number(out: &mut [u8], at: usize, w: usize, n: u64) -> usize
@@ -108,6 +110,23 @@ pub(crate) fn put_text(out: &mut [u8], at: usize, t: Text) -> usize
 {
     let bytes = t.bytes;
     let p = put_text_bytes(out, at, &bytes);
+    put_usize(out, p, t.len)
+}
+
+// All bytes of a name's array.
+fn put_name_bytes(out: &mut [u8], at: usize, b: &[u8; NAME_LIMIT]) -> usize
+    requires { ⌜ at + nameLimit ≤ length (now out) ⌝ }
+    ensures { λ r. ⌜ (r ≡ at + nameLimit) × Wrote at (now (b .entry)) (now (out .entry)) r (now (out .exit)) ⌝ }
+{
+    put_bytes(out, at, b)
+}
+
+pub(crate) fn put_name(out: &mut [u8], at: usize, t: Name) -> usize
+    requires { ⌜ at + nameLength ≤ length (now out) ⌝ }
+    ensures { λ r. ⌜ (r ≡ at + nameLength) × Wrote at (nameBytesAll t) (now (out .entry)) r (now (out .exit)) ⌝ }
+{
+    let bytes = t.bytes;
+    let p = put_name_bytes(out, at, &bytes);
     put_usize(out, p, t.len)
 }
 

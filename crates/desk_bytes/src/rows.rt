@@ -6,12 +6,13 @@ ghost use Prim.Native.Nat.{_+_, _≤_};
 ghost use lib.ListN.{length};
 ghost use Rattle.rules.specs.Scope.{modeNumber};
 ghost use Rattle.journal.specs.Numbers.{bytesOf};
-ghost use Rattle.desk_bytes.specs.Layout.{hashLength, textLength, capLength, textBytesAll, capBytes, statusNumber, scopeBytes, scopeLength, volumeBytes, volumeLength, entryBytes, entryLength, tokenBytes, tokenLength, relayBytes, relayLength, putBytes, putLength, sessionBytes, sessionLength};
+ghost use Rattle.desk_bytes.specs.Layout.{hashLength, textLength, nameLength, capLength, textBytesAll, nameBytesAll, capBytes, statusNumber, scopeBytes, scopeLength, volumeBytes, volumeLength, entryBytes, entryLength, tokenBytes, tokenLength, relayBytes, relayLength, putBytes, putLength, sessionBytes, sessionLength};
 ghost use Rattle.desk_bytes.specs.Written.{Wrote};
 use super::parts::put_account;
 use super::parts::put_cap;
 use super::parts::put_hash;
 use super::parts::put_mode;
+use super::parts::put_name;
 use super::parts::put_placement;
 use super::parts::put_status;
 use super::parts::put_text;
@@ -34,15 +35,16 @@ use rules::Status;
 use rules::Token;
 use rules::Volume;
 use text::Text;
+use text::name::Name;
 
 // A volume: its number, owner and name.
-fn put_before_k(out: &mut [u8], at: usize, no: u32, owner: Account, name: Text) -> usize
-    requires { ⌜ at + (4 + hashLength + textLength) ≤ length (now out) ⌝ }
-    ensures { λ r. ⌜ (r ≡ at + (4 + hashLength + textLength)) × Wrote at (bytesOf 4 no ++ owner .0 ++ textBytesAll name) (now (out .entry)) r (now (out .exit)) ⌝ }
+fn put_before_k(out: &mut [u8], at: usize, no: u32, owner: Account, name: Name) -> usize
+    requires { ⌜ at + (4 + hashLength + nameLength) ≤ length (now out) ⌝ }
+    ensures { λ r. ⌜ (r ≡ at + (4 + hashLength + nameLength)) × Wrote at (bytesOf 4 no ++ owner .0 ++ nameBytesAll name) (now (out .entry)) r (now (out .exit)) ⌝ }
 {
     let a = put_u32(out, at, no);
     let b = put_account(out, a, owner);
-    put_text(out, b, name)
+    put_name(out, b, name)
 }
 
 // K and M.
@@ -96,14 +98,14 @@ fn put_before_balance(
     at: usize,
     no: u32,
     owner: Account,
-    name: Text,
+    name: Name,
     k: u8,
     m: u8,
     cap: Cap,
     status: Status,
 ) -> usize
-    requires { ⌜ at + (4 + hashLength + textLength + (1 + 1 + capLength + 1)) ≤ length (now out) ⌝ }
-    ensures { λ r. ⌜ (r ≡ at + (4 + hashLength + textLength + (1 + 1 + capLength + 1))) × Wrote at ((bytesOf 4 no ++ owner .0 ++ textBytesAll name) ++ (bytesOf 1 k ++ bytesOf 1 m ++ capBytes cap ++ bytesOf 1 (statusNumber status))) (now (out .entry)) r (now (out .exit)) ⌝ }
+    requires { ⌜ at + (4 + hashLength + nameLength + (1 + 1 + capLength + 1)) ≤ length (now out) ⌝ }
+    ensures { λ r. ⌜ (r ≡ at + (4 + hashLength + nameLength + (1 + 1 + capLength + 1))) × Wrote at ((bytesOf 4 no ++ owner .0 ++ nameBytesAll name) ++ (bytesOf 1 k ++ bytesOf 1 m ++ capBytes cap ++ bytesOf 1 (statusNumber status))) (now (out .entry)) r (now (out .exit)) ⌝ }
 {
     let a = put_before_k(out, at, no, owner, name);
     put_from_k(out, a, k, m, cap, status)

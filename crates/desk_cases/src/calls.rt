@@ -16,12 +16,12 @@ use rules::RelayNo;
 use rules::TokenNo;
 use rules::VolumeNo;
 
-fn account(b: u8) -> Account {
+pub(crate) fn account(b: u8) -> Account {
     let bytes = [b; 32];
     Account(bytes)
 }
 
-fn hash_of(b: u8) -> Hash {
+pub(crate) fn hash_of(b: u8) -> Hash {
     let bytes = [b; 32];
     Hash(bytes)
 }

@@ -10,6 +10,7 @@ mod block_cases;
 mod calls;
 mod commit_cases;
 mod epoch_cases;
+mod length_cases;
 mod limit_cases;
 mod made;
 mod place_cases;
@@ -33,4 +34,5 @@ fn main() {
     place_cases::run();
     store_cases::run();
     epoch_cases::run();
+    length_cases::run();
 }

@@ -87,13 +87,13 @@ fn paths() {
     stage_at(d, 0, b"job/../x", 1, 7);
     stage_at(d, 0, b"job/a b", 1, 7);
     stage_at(d, 0, b"job/...", 1, 7);
-    let mut long = [b'p'; 128];
+    let mut long = [b'p'; 512];
     long[0] = b'j';
     long[1] = b'o';
     long[2] = b'b';
     long[3] = b'/';
     stage_at(d, 0, &long, 1, 7);
-    let longer = [b'p'; 129];
+    let longer = [b'p'; 513];
     stage_at(d, 0, &longer, 1, 7);
 }
 

@@ -30,11 +30,11 @@ fn scopes() {
     grant(d, 1, 1, b"/", Mode::Both, Cap::Unlimited, 0, 9);
     grant(d, 1, 1, b"job//", Mode::Both, Cap::Unlimited, 0, 9);
     grant(d, 1, 1, b"../", Mode::Both, Cap::Unlimited, 0, 9);
-    let mut long = [b'p'; 128];
-    long[127] = b'/';
+    let mut long = [b'p'; 512];
+    long[511] = b'/';
     grant(d, 1, 1, &long, Mode::Both, Cap::Unlimited, 0, 9);
-    let mut longer = [b'p'; 129];
-    longer[128] = b'/';
+    let mut longer = [b'p'; 513];
+    longer[512] = b'/';
     grant(d, 1, 1, &longer, Mode::Both, Cap::Unlimited, 0, 9);
     grant_whole(d, 1, Cap::Bytes(68719476737));
     grant_whole(d, 1, Cap::Bytes(68719476736));

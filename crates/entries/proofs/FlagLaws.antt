@@ -77,7 +77,7 @@ module _ (v : VolumeNo) (es : List Entry) (puts : List Put) (count m i sum s len
     (marks : List Bool) (h : SeekLoop v (take len (getD puts i blankPut .path .bytes)) marks es j b) where
   new-path : not b ≡ isNewPath v es (getD puts i blankPut)
   unfolding isNewPath
-  new-path = rw (← part-bytes (getD puts i blankPut .path) len size, ← flag-end _ es 64 j b k (h .seen))
+  new-path = rw (← part-bytes (getD puts i blankPut .path .bytes) (getD puts i blankPut .path .len) len size, ← flag-end _ es 64 j b k (h .seen))
 
   module _ (low : i < m) (c : CountLoop (isNewPath v es) (take count puts) m i sum) where
     pub new-counted : not b ≡ true → s ≡ sum + 1 → CountLoop (isNewPath v es) (take count puts) m (i + 1) s

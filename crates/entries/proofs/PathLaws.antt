@@ -43,12 +43,18 @@ module _ {A : Type 0} (p : A → Bool) (l : List A) (f : Found) (e : f ≡ first
 
 -- what was said of the n bytes that were lent is said of the text
 module _ (t : Text) (n : ℕ) (e : n ≡ length (textBytes t)) where
+  pub path-within : n ≤ length (t .bytes)
+  path-within = part-within (t .bytes) (t .len) n e
+
+  pub path-length : n ≡ length (take n (t .bytes))
+  path-length = part-length (t .bytes) (t .len) n e
+
   pub anew : (r : Text) → length (t .bytes) ≡ pathLimit → r ≡ toText (take pathLimit (take n (t .bytes))) → r ≡ toText (textBytes t)
-  anew r h q = q ∙ rw (part-bytes t n e, take-all pathLimit (textBytes t) (text-fits t h))
+  anew r h q = q ∙ rw (part-bytes (t .bytes) (t .len) n e, take-all pathLimit (textBytes t) (text-fits t h))
 
   module _ (puts : List Put) (f : Found) (q : f ≡ firstAt (isPut (take n (t .bytes))) 0 puts) where
     put-part : f ≡ firstAt (isPut (textBytes t)) 0 puts
-    put-part = rw (← part-bytes t n e) q
+    put-part = rw (← part-bytes (t .bytes) (t .len) n e) q
 
     pub put-there : (i : ℕ) → f ≡ At i → true ≡ anyOf (isPut (textBytes t)) puts
     put-there i w = sym (row-there (isPut (textBytes t)) puts f put-part i w)
@@ -58,4 +64,4 @@ module _ (t : Text) (n : ℕ) (e : n ≡ length (textBytes t)) where
 
 pub ruleset lens = (len-within, len-whole, needs)
 
-pub ruleset lent-paths = (part-within, part-length, anew, put-there, put-missing, needs)
+pub ruleset lent-paths = (path-within, path-length, anew, put-there, put-missing, needs)

@@ -176,7 +176,7 @@ module _ (n : VolumeNo) (puts : List Put) (es : List Entry) (marks : List Bool) 
   -- next is the row that takes the put
   module _ (j row free next : ℕ) (h : RowLoop n (take len (getD puts i blankPut .path .bytes)) marks es j row free) (k : j ≤ 0) where
     at-path : row ≡ indexOr 64 (firstAt (isEntry n (textBytes (getD puts i blankPut .path))) 0 es)
-    at-path = rw (part-bytes (getD puts i blankPut .path) len size) at (down-end (isEntry n (take len (getD puts i blankPut .path .bytes))) es 64 j row (h .same) k)
+    at-path = rw (part-bytes (getD puts i blankPut .path .bytes) (getD puts i blankPut .path .len) len size) at (down-end (isEntry n (take len (getD puts i blankPut .path .bytes))) es 64 j row (h .same) k)
 
     pub takes-row : next ≡ cond (eqb row 64) free row → RowFor n (getD puts i blankPut) es next
     takes-row q =

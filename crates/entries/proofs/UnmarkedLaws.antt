@@ -77,7 +77,7 @@ pub record PathMarks (n : VolumeNo) (path : List ℕ) (marks : List Bool) (es : 
 pub path-marks : (n : VolumeNo) (puts : List Put) (c m i len : ℕ) (marks : List Bool) (es : List Entry) → Unmarked n (take c puts) marks es → length (take c puts) ≡ m
     → i < m → len ≡ length (textBytes (getD puts i blankPut .path)) → PathMarks n (take len (getD puts i blankPut .path .bytes)) marks es
 path-marks n puts c m i len marks es h e k size =
-    rw (part-bytes (getD puts i blankPut .path) len size) (record { size = h .size; none = go })
+    rw (part-bytes (getD puts i blankPut .path .bytes) (getD puts i blankPut .path .len) len size) (record { size = h .size; none = go })
   where
     there : getD (take c puts) i blankPut ≡ getD puts i blankPut
     there = getD-take c puts i blankPut (omega (arith, length-take c puts))

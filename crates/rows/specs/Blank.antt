@@ -2,6 +2,7 @@
 use mathlib.Core.List.{[]}
 use Rattle.amount.specs.declared.Cap.the-variants.{Unlimited}
 use Rattle.text.specs.declared.Text.{Text}
+use Rattle.text.specs.declared.name.Name.{Name}
 use Rattle.rules.specs.declared.Volume.{Volume}
 use Rattle.rules.specs.declared.Entry.{Entry}
 use Rattle.rules.specs.declared.Token.{Token}
@@ -15,11 +16,14 @@ use Rattle.rules.specs.Fresh.{noVolume, noToken, noRelay}
 abbrev pub blankText : Text
 blankText = record { bytes = []; len = 0 }
 
+abbrev pub blankName : Name
+blankName = record { bytes = []; len = 0 }
+
 abbrev pub blankVolume : Volume
 blankVolume = record {
   no = noVolume;
   owner = record { 0 = [] };
-  name = blankText;
+  name = blankName;
   k = 0;
   m = 0;
   cap = Unlimited;

@@ -13,6 +13,7 @@ use rules::Entry;
 use rules::Put;
 use rules::Volume;
 use rules::VolumeNo;
+use text::name::same_name;
 use text::same_text;
 
 // Whether the entry is this volume's at this path.
@@ -87,7 +88,7 @@ pub fn has_name(v: Volume, a: Account, name: &[u8]) -> bool
         return false;
     }
     let n = v.name;
-    same_text(n, name)
+    same_name(n, name)
 }
 
 pub fn name_taken(rows: [Volume; 8], a: Account, name: &[u8]) -> bool

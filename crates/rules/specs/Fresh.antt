@@ -4,7 +4,8 @@ use mathlib.Core.List.{[]}
 use lib.ListN.{replicate}
 use Rattle.amount.specs.declared.Cap.the-variants.{Bytes}
 use Rattle.text.specs.declared.Text.{Text}
-use Rattle.text.specs.Text.{pathLimit}
+use Rattle.text.specs.declared.name.Name.{Name}
+use Rattle.text.specs.Text.{pathLimit, nameLimit}
 use Rattle.rules.specs.declared.VolumeNo.{VolumeNo}
 use Rattle.rules.specs.declared.TokenNo.{TokenNo}
 use Rattle.rules.specs.declared.RelayNo.{RelayNo}
@@ -36,6 +37,9 @@ noRelay = record { 0 = 0 }
 abbrev pub freshText : Text
 freshText = record { bytes = replicate pathLimit 0; len = 0 }
 
+abbrev pub freshName : Name
+freshName = record { bytes = replicate nameLimit 0; len = 0 }
+
 abbrev pub freshHash : Hash
 freshHash = record { 0 = replicate 32 0 }
 
@@ -49,7 +53,7 @@ abbrev pub freshVolume : Volume
 freshVolume = record {
   no = noVolume;
   owner = freshAccount;
-  name = freshText;
+  name = freshName;
   k = 0;
   m = 0;
   cap = Bytes 0;

@@ -6,7 +6,7 @@ use Prim.Native.Nat.{ℕ, _+_}
 use lib.Dec.{eqb, leb}
 use Rattle.lists.specs.Lists.{Hit, miss, hit, find, allOf, anyOf, sumOf, noClash}
 use Rattle.lists.specs.Bytes.{sameBytes}
-use Rattle.text.specs.Text.{within, isName, isPath, isPrefix, holds, textBytes}
+use Rattle.text.specs.Text.{within, isPath, isPrefix, holds, textBytes, nameBytes, holdsName}
 use Rattle.rules.specs.declared.VolumeNo.{VolumeNo}
 use Rattle.rules.specs.declared.RelayNo.{RelayNo}
 use Rattle.rules.specs.declared.Placement.{Placement}
@@ -47,7 +47,7 @@ shardsFit k m = within leastK mostK k && within leastM mostM m
 unfoldable pub soundVolume : Tables → Volume → Bool
 soundVolume t v =
     freeVolume v
-    || (isGiven (t .«last_volume») (v .no .0) && holds isName (v .name) && shardsFit (v .k) (v .m) && capFits (v .cap)
+    || (isGiven (t .«last_volume») (v .no .0) && holdsName (v .name) && shardsFit (v .k) (v .m) && capFits (v .cap)
     && leb (v .balance) balanceLimit
     && soundStatus (t .clock) (v .status) (v .grace) (v .deleted))
 
@@ -58,7 +58,7 @@ sameVolume a b = numbered (a .no .0) (b .no .0)
 -- "an owner's volume name .. held twice"
 unfoldable pub sameName : Volume → Volume → Bool
 sameName a b =
-    usedVolume a && usedVolume b && sameBytes (a .owner .0) (b .owner .0) && sameBytes (textBytes (a .name)) (textBytes (b .name))
+    usedVolume a && usedVolume b && sameBytes (a .owner .0) (b .owner .0) && sameBytes (nameBytes (a .name)) (nameBytes (b .name))
 
 -- a relay's number was given; the relay may have left the table
 abbrev pub relayGiven : Tables → RelayNo → Bool

@@ -8,7 +8,7 @@ use lib.ListN.{set}
 use Rattle.amount.specs.declared.Cap.{Cap}
 use Rattle.lists.specs.Lists.{Hit, miss, hit, find, anyOf, keep}
 use Rattle.lists.specs.Bytes.{sameBytes}
-use Rattle.text.specs.Text.{isName, isPath, textBytes, toText}
+use Rattle.text.specs.Text.{isName, isPath, nameBytes, toName}
 use Rattle.rules.specs.declared.VolumeNo.{VolumeNo}
 use Rattle.rules.specs.declared.Account.{Account}
 use Rattle.rules.specs.declared.Status.{Status}
@@ -43,14 +43,14 @@ isOpen s = not (isDeleted s)
 
 -- 25: "that owner has a volume of that name in the table"
 unfoldable pub hasName : Account → List ℕ → Volume → Bool
-hasName a name v = usedVolume v && ownedBy a v && sameBytes (textBytes (v .name)) name
+hasName a name v = usedVolume v && ownedBy a v && sameBytes (nameBytes (v .name)) name
 
 -- "a new volume is ACTIVE with balance 0"; "A volume's version starts at 0"
 abbrev pub newVolume : ℕ → Account → List ℕ → ℕ → ℕ → Cap → Volume
 newVolume n a name k m cap = record {
   no = record { 0 = n };
   owner = a;
-  name = toText name;
+  name = toName name;
   k = k;
   m = m;
   cap = cap;

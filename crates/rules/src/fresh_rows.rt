@@ -20,13 +20,25 @@ use super::TokenNo;
 use super::Volume;
 use super::VolumeNo;
 use amount::Cap;
+use text::NAME_LIMIT;
+use text::PATH_LIMIT;
 use text::Text;
+use text::name::Name;
 
 fn empty_text() -> Text
     ensures { λ r. ⌜ r ≡ Rattle.rules.specs.Fresh.freshText ⌝ }
 {
     Text {
-        bytes: [0u8; 128],
+        bytes: [0u8; PATH_LIMIT],
+        len: 0,
+    }
+}
+
+fn empty_name() -> Name
+    ensures { λ r. ⌜ r ≡ Rattle.rules.specs.Fresh.freshName ⌝ }
+{
+    Name {
+        bytes: [0u8; NAME_LIMIT],
         len: 0,
     }
 }
@@ -66,7 +78,7 @@ pub fn fresh_volume() -> Volume
 {
     let bytes = [0u8; 32];
     let owner = Account(bytes);
-    let name = empty_text();
+    let name = empty_name();
     Volume {
         no: VolumeNo(0),
         owner,

@@ -21,6 +21,7 @@ pub use fresh_rows::fresh_tables;
 pub use fresh_rows::fresh_token;
 pub use fresh_rows::fresh_volume;
 use text::Text;
+use text::name::Name;
 
 // Volume, token and relay numbers are three types, so that one cannot be passed where another belongs. Each counts from 1;
 // 0 marks a free row.
@@ -51,7 +52,7 @@ pub enum Status {
 pub struct Volume {
     pub no: VolumeNo,
     pub owner: Account,
-    pub name: Text,
+    pub name: Name,
     // K data shards and M parity shards
     pub k: u8,
     pub m: u8,

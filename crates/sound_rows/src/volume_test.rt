@@ -14,7 +14,7 @@ use rules::Status;
 use rules::Tables;
 use rules::Volume;
 use text::name::holds_name;
-use text::same_texts;
+use text::name::same_names;
 
 // The grace count that the status has.
 fn sound_grace(s: Status, grace: u8) -> bool
@@ -99,7 +99,7 @@ fn same_name(a: Volume, b: Volume) -> bool
     }
     let x = a.name;
     let y = b.name;
-    same_texts(x, y)
+    same_names(x, y)
 }
 
 // Whether a row from an index on has the same owner and name.

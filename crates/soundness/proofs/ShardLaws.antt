@@ -20,7 +20,7 @@ use Rattle.lists.specs.BoolLaws.{and-left, and-right}
 use Rattle.lists.specs.SearchLaws.{first-below, found-below, found-at, row-passes, none-miss}
 use Rattle.lists.specs.ByteLoopLaws.{FillLoop, fill-start, fill-whole, length-mapped, least-mapped}
 use Rattle.lists.specs.TestLaws.{all-at, at-none}
-use Rattle.text.specs.Text.{within, isName, isPath, holds}
+use Rattle.text.specs.Text.{within, isPath, holds, holdsName}
 use Rattle.rules.specs.declared.Volume.{Volume}
 use Rattle.rules.specs.declared.Entry.{Entry}
 use Rattle.rules.specs.declared.RelayNo.{RelayNo}
@@ -105,7 +105,7 @@ pub ruleset stores = (sizes-end, sizes-start, rows-length, needs)
 least-k : (t : Tables) (v : Volume) → 0 < v .no .0 → soundVolume t v ≡ true → 1 ≤ v .k
 unfolding soundVolume
 least-k t v p h =
-    let a = isGiven (t .«last_volume») (v .no .0) && holds isName (v .name) in
+    let a = isGiven (t .«last_volume») (v .no .0) && holdsName (v .name) in
     let b = a && shardsFit (v .k) (v .m) in
     let c = b && capFits (v .cap) in
     let d = c && leb (v .balance) balanceLimit in

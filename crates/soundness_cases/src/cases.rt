@@ -15,6 +15,7 @@ use rules::TokenNo;
 use rules::Volume;
 use rules::VolumeNo;
 use text::Text;
+use text::name::Name;
 
 // The desk with one part replaced: the tables, the last row of a table, or the last slot.
 fn with_tables(d: Desk, t: Tables) -> Desk {
@@ -75,8 +76,8 @@ pub(crate) fn volumes(d: Desk) {
     let h = full::name(b'h');
     let v = full::volume(9, h, Cap::Unlimited, Status::Active);
     show(b"a volume number not yet given", with_volume(d, v));
-    let long = Text {
-        bytes: [b'h'; 128],
+    let long = Name {
+        bytes: [b'h'; 64],
         len: 65,
     };
     let v = full::volume(8, long, Cap::Unlimited, Status::Active);
@@ -136,6 +137,10 @@ pub(crate) fn entries(d: Desk) {
     let slash = full::path(b'z', b'/');
     let e = full::entry(1, slash);
     show(b"a path that ends with a slash", with_entry(d, e));
+    let mut longer = full::path(b'z', b'z');
+    longer.len = 513;
+    let e = full::entry(1, longer);
+    show(b"a path of 513 bytes", with_entry(d, e));
     let path = full::path(b'z', b'z');
     let mut e = full::entry(1, path);
     e.size = 68719476737;
@@ -174,7 +179,7 @@ pub(crate) fn placements(d: Desk) {
 pub(crate) fn tokens(d: Desk) {
     let k = full::token(33, 31, Cap::Unlimited);
     show(b"a token number not yet given", with_token(d, k));
-    let word = full::name(b'w');
+    let word = text::to_text(b"w");
     let mut k = full::token(32, 31, Cap::Unlimited);
     let mut scope = k.scope;
     scope.prefix = word;
@@ -282,10 +287,14 @@ pub(crate) fn free_rows(rate: u16) {
     let fresh = rules::fresh(rate);
     show(b"the fresh desk", fresh);
     let junk = Text {
-        bytes: [0u8; 128],
+        bytes: [0u8; 512],
         len: 999,
     };
-    let mut v = full::volume(0, junk, Cap::Bytes(68719476737), Status::Active);
+    let junk_name = Name {
+        bytes: [0u8; 64],
+        len: 999,
+    };
+    let mut v = full::volume(0, junk_name, Cap::Bytes(68719476737), Status::Active);
     v.grace = 9;
     let with_v = with_volume(fresh, v);
     let mut e = full::entry(0, junk);

@@ -18,23 +18,24 @@ use rules::TokenNo;
 use rules::Volume;
 use rules::VolumeNo;
 use text::Text;
+use text::name::Name;
 
-// A path of 128 bytes that ends in these two.
+// A path of 512 bytes that ends in these two.
 pub(crate) fn path(a: u8, b: u8) -> Text {
-    let mut bytes = [b'p'; 128];
-    bytes[126] = a;
-    bytes[127] = b;
-    Text { bytes, len: 128 }
+    let mut bytes = [b'p'; 512];
+    bytes[510] = a;
+    bytes[511] = b;
+    Text { bytes, len: 512 }
 }
 
 // A name of one byte.
-pub(crate) fn name(a: u8) -> Text {
-    let mut bytes = [0u8; 128];
+pub(crate) fn name(a: u8) -> Name {
+    let mut bytes = [0u8; 64];
     bytes[0] = a;
-    Text { bytes, len: 1 }
+    Name { bytes, len: 1 }
 }
 
-pub(crate) fn volume(n: u32, name: Text, cap: Cap, status: Status) -> Volume {
+pub(crate) fn volume(n: u32, name: Name, cap: Cap, status: Status) -> Volume {
     let bytes = [7u8; 32];
     let owner = Account(bytes);
     Volume {

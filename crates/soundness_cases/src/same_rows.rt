@@ -16,8 +16,18 @@ use rules::Status;
 use rules::Token;
 use rules::Volume;
 use text::Text;
+use text::name::Name;
 
 fn same_text(a: Text, b: Text) -> bool {
+    if a.len != b.len {
+        return false;
+    }
+    let x = a.bytes;
+    let y = b.bytes;
+    same_bytes(&x, &y)
+}
+
+fn same_name(a: Name, b: Name) -> bool {
     if a.len != b.len {
         return false;
     }
@@ -76,7 +86,7 @@ pub(crate) fn same_volume(a: Volume, b: Volume) -> bool {
     }
     let x = a.name;
     let y = b.name;
-    if !same_text(x, y) {
+    if !same_name(x, y) {
         return false;
     }
     let x = a.cap;

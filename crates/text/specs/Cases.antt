@@ -1,13 +1,13 @@
 -- Worked cases of the rules of texts: one table, proved from the definitions. Assumes nothing.
 use mathlib.Core.Path.{_≡_, refl}
 use mathlib.Core.Bool.{Bool, true, false}
-use mathlib.Core.List.{List, [], _∷_, map}
+use mathlib.Core.List.{List, [], _∷_, _++_, map}
 use Prim.Native.Nat.{ℕ}
 use Prim.Native.Char.{code}
 use Prim.Native.String.{String, [] as done, _∷_ as _then_}
 use lib.ListN.{replicate}
 use Rattle.lists.specs.Bytes.{startsWith}
-use Rattle.text.specs.Text.{isPath, isPrefix, isName, covers}
+use Rattle.text.specs.Text.{slash, isPath, isPrefix, isName, covers}
 
 -- the bytes of a quoted text
 unfoldable ascii : String → List ℕ
@@ -50,13 +50,18 @@ cases =
     ∷ path (ascii "a/.") false
     ∷ path (ascii "a/../b") false
     ∷ path (letters 128) true
-    ∷ path (letters 129) false
+    ∷ path (letters 129) true
+    ∷ path (letters 511) true
+    ∷ path (letters 512) true
+    ∷ path (letters 513) false
     ∷ path (0x21 ∷ 0x7e ∷ []) true
     ∷ path (97 ∷ 0x20 ∷ []) false
     ∷ path (97 ∷ 0x7f ∷ []) false
     ∷ prefix (ascii "") true
     ∷ prefix (ascii "job/") true
     ∷ prefix (ascii "job/a/") true
+    ∷ prefix (letters 511 ++ slash ∷ []) true
+    ∷ prefix (letters 512 ++ slash ∷ []) false
     ∷ prefix (ascii "job") false
     ∷ prefix (ascii "/") false
     ∷ prefix (ascii "a//") false

@@ -7,10 +7,12 @@ use lib.ListN.{length, take, getD, replicate}
 use Rattle.lists.specs.Lists.{allOf}
 use Rattle.lists.specs.Bytes.{sameBytes, startsWith}
 use Rattle.text.specs.declared.Text.{Text}
+use Rattle.text.specs.declared.name.Name.{Name}
 
--- "Path: 1 to 128 bytes"; "Prefix: .. at most 128 bytes in all"
+-- 01: "Path: 1 to 128 bytes"; "Prefix: .. at most 128 bytes in all". 02, W1: "Paths go to 512 bytes, as source document 000 has it, and
+-- prefixes to 512 with their slash."
 abbrev pub pathLimit : ℕ
-pathLimit = 128
+pathLimit = 512
 
 -- "name 1 to 64 bytes"
 abbrev pub nameLimit : ℕ
@@ -53,7 +55,7 @@ unfoldable pub isPart : List ℕ → Bool
 unfolding sameBytes
 isPart p = not (sameBytes p [] || sameBytes p (dot ∷ []) || sameBytes p (dot ∷ dot ∷ []))
 
--- "Path: 1 to 128 bytes in 0x21..0x7E; no leading or trailing "/" (001), no empty, "." or ".." part (H)". Before a leading slash and
+-- "Path: 1 to 512 bytes (W1) in 0x21..0x7E; no leading or trailing "/" (001), no empty, "." or ".." part (H)". Before a leading slash and
 -- after a trailing one stands an empty part.
 unfoldable pub isPath : List ℕ → Bool
 unfolding allOf parts isPart
@@ -63,12 +65,12 @@ isPath s = within 1 pathLimit (length s) && allOf isPathByte s && allOf isPart (
 abbrev pub butLast : List ℕ → List ℕ
 butLast s = take (length s - 1) s
 
--- "a path followed by "/", at most 128 bytes in all"
+-- "a path followed by "/", at most 512 bytes (W1) in all"
 unfoldable pub isPathAndSlash : List ℕ → Bool
 unfolding isPath
 isPathAndSlash s = leb (length s) pathLimit && eqb (getD s (length s - 1) 0) slash && isPath (butLast s)
 
--- "Prefix: empty, or a path followed by "/", at most 128 bytes in all"
+-- "Prefix: empty, or a path followed by "/", at most 512 bytes (W1) in all"
 unfoldable pub isPrefix : List ℕ → Bool
 unfolding isPathAndSlash
 isPrefix [] = true
@@ -88,14 +90,28 @@ unfoldable pub isName : List ℕ → Bool
 unfolding allOf
 isName s = within 1 nameLimit (length s) && allOf isNameByte s
 
+-- bytes followed by zeros, w in all
+abbrev pub padded : ℕ → List ℕ → List ℕ
+padded w s = s ++ replicate (w - length s) 0
+
 -- the bytes of a text
 abbrev pub textBytes : Text → List ℕ
 textBytes t = take (t .len) (t .bytes)
 
--- the text of at most 128 bytes, padded with zeros
+-- the text of at most 512 bytes
 abbrev pub toText : List ℕ → Text
-toText s = record { bytes = s ++ replicate (pathLimit - length s) 0; len = length s }
+toText s = record { bytes = padded pathLimit s; len = length s }
 
 -- a text whose bytes lie within its array and pass the test
 abbrev pub holds : (List ℕ → Bool) → Text → Bool
 holds p t = leb (t .len) pathLimit && p (textBytes t)
+
+-- the same of a name, which has at most 64 bytes
+abbrev pub nameBytes : Name → List ℕ
+nameBytes t = take (t .len) (t .bytes)
+
+abbrev pub toName : List ℕ → Name
+toName s = record { bytes = padded nameLimit s; len = length s }
+
+abbrev pub holdsName : Name → Bool
+holdsName t = leb (t .len) nameLimit && isName (nameBytes t)

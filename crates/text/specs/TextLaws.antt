@@ -14,9 +14,8 @@ use Rattle.lists.specs.Lists.{allOf}
 use Rattle.lists.specs.Bytes.{sameBytes, startsWith}
 use Rattle.lists.specs.BoolLaws.{and-left, and-right}
 use Rattle.lists.specs.ByteLoopLaws.{FillLoop, fill-end, fills}
-use Rattle.text.specs.declared.Text.{Text}
 use Rattle.text.specs.Text.{pathLimit, nameLimit, slash, isPathByte, isPart, parts, isPath, butLast}
-use Rattle.text.specs.Text.{isPathAndSlash, isPrefix, isNameByte, isName, textBytes, toText, holds}
+use Rattle.text.specs.Text.{isPathAndSlash, isPrefix, isNameByte, isName, padded, textBytes, toText, holds, nameBytes, toName, holdsName}
 
 -- no more than all
 pub take-min : (m : ℕ) (l : List ℕ) → take (min (length l) m) l ≡ take m l
@@ -24,28 +23,26 @@ take-min m [] = take-nil (min 0 m) ∙ sym (take-nil m)
 take-min zero (x ∷ xs) = rw (min-zero (suc (length xs)))
 take-min (suc m) (x ∷ xs) = rw (suc-min-suc (length xs) m) (ap (λ ys. x ∷ ys) (take-min m xs))
 
--- the part of a text's array that holds its n bytes
-module _ (t : Text) (n : ℕ) (e : n ≡ length (textBytes t)) where
-  pub part-within : n ≤ length (t .bytes)
-  part-within = omega (arith, length-take (t .len) (t .bytes), min-le-right (t .len) (length (t .bytes)))
+-- the part of the array l of a text or a name of length len that holds its n bytes
+module _ (l : List ℕ) (len n : ℕ) (e : n ≡ length (take len l)) where
+  pub part-within : n ≤ length l
+  part-within = omega (arith, length-take len l, min-le-right len (length l))
 
-  pub part-bytes : take n (t .bytes) ≡ textBytes t
-  part-bytes =
-      ap (λ (k : ℕ). take k (t .bytes)) (e ∙ length-take (t .len) (t .bytes) ∙ min-comm (t .len) (length (t .bytes)))
-      ∙ take-min (t .len) (t .bytes)
+  pub part-bytes : take n l ≡ take len l
+  part-bytes = ap (λ (k : ℕ). take k l) (e ∙ length-take len l ∙ min-comm len (length l)) ∙ take-min len l
 
-  pub part-length : n ≡ length (take n (t .bytes))
+  pub part-length : n ≡ length (take n l)
   part-length = e ∙ ap length (sym part-bytes)
 
   -- what was said of that part is said of the text
   module _ (r : Bool) (s : List ℕ) where
-    pub part-same : r ≡ sameBytes (take n (t .bytes)) s → r ≡ sameBytes (textBytes t) s
+    pub part-same : r ≡ sameBytes (take n l) s → r ≡ sameBytes (take len l) s
     part-same f = rw (← part-bytes) f
 
-    pub part-begins : r ≡ startsWith (take n (t .bytes)) s → r ≡ startsWith (textBytes t) s
+    pub part-begins : r ≡ startsWith (take n l) s → r ≡ startsWith (take len l) s
     part-begins f = rw (← part-bytes) f
 
-    pub same-part : r ≡ sameBytes s (take n (t .bytes)) → r ≡ sameBytes s (textBytes t)
+    pub same-part : r ≡ sameBytes s (take n l) → r ≡ sameBytes s (take len l)
     same-part f = rw (← part-bytes) f
 
 pub ruleset lent = (part-within, part-length, part-same, part-begins, same-part, needs)
@@ -60,40 +57,56 @@ module _ (l : List ℕ) (n w : ℕ) (e : length l ≡ w) (h : n ≤ w) where
 
 pub ruleset front = (front-within, front-length, needs)
 
--- a text has its array's length or less
-pub length-text : (t : Text) (r : ℕ) → r ≡ min (t .len) pathLimit → length (t .bytes) ≡ pathLimit → r ≡ length (textBytes t)
-length-text t r e h = e ∙ sym (length-take (t .len) (t .bytes) ∙ rw h)
+-- a text has its array's length w or less
+pub length-text : (l : List ℕ) (len w r : ℕ) → r ≡ min len w → length l ≡ w → r ≡ length (take len l)
+length-text l len w r e h = e ∙ sym (length-take len l ∙ rw h)
 
--- a text filled with all that it takes of s: its n bytes, and zeros
+-- an array of w bytes filled with all that it takes of s: its n bytes, and zeros
 drop-same : (a n m : ℕ) → drop n (replicate m a) ≡ replicate (m - n) a
 drop-same a zero m = let z : m - 0 ≡ m = omega arith in rw z
 drop-same a (suc n) zero = let z : 0 - suc n ≡ 0 = omega arith in rw z
 drop-same a (suc n) (suc m) = let z : suc m - suc n ≡ m - n = omega arith in rw z (drop-same a n m)
 
-module _ (s : List ℕ) (n : ℕ) (e : n ≡ min (length s) pathLimit) where
+module _ (w : ℕ) (s : List ℕ) (n : ℕ) (e : n ≡ min (length s) w) where
   pub filled-source : n ≤ length s
-  filled-source = omega (arith, min-le-left (length s) pathLimit)
+  filled-source = omega (arith, min-le-left (length s) w)
 
-  pub filled-room : n ≤ pathLimit
-  filled-room = omega (arith, min-le-right (length s) pathLimit)
+  pub filled-room : n ≤ w
+  filled-room = omega (arith, min-le-right (length s) w)
 
-  pub text-filled : (i : ℕ) (b : List ℕ) → FillLoop (replicate pathLimit 0) 0 s n i b → n ≤ i → record { bytes = b; len = n } ≡ toText (take pathLimit s)
-  text-filled i b h k =
-      let q : take n s ≡ take pathLimit s = ap (λ (m : ℕ). take m s) e ∙ take-min pathLimit s in
-      let l : n ≡ length (take pathLimit s) = e ∙ min-comm (length s) pathLimit ∙ sym (length-take pathLimit s) in
-      let f : b ≡ take pathLimit s ++ replicate (pathLimit - length (take pathLimit s)) 0 =
-      fill-end (replicate pathLimit 0) 0 s n i b h k ∙ rw (zero-add n, q, drop-same 0 n pathLimit, ← l) in
-      λ j. record { bytes = f j; len = l j }
+  filled-length : n ≡ length (take w s)
+  filled-length = e ∙ min-comm (length s) w ∙ sym (length-take w s)
 
-pub ruleset texts = (text-filled, filled-source, filled-room, fills)
+  filled-bytes : (i : ℕ) (b : List ℕ) → FillLoop (replicate w 0) 0 s n i b → n ≤ i → b ≡ padded w (take w s)
+  filled-bytes i b h k =
+      let q : take n s ≡ take w s = ap (λ (m : ℕ). take m s) e ∙ take-min w s in
+      fill-end (replicate w 0) 0 s n i b h k ∙ rw (zero-add n, q, drop-same 0 n w, ← filled-length)
+
+module _ (s : List ℕ) (n i : ℕ) (b : List ℕ) where
+  pub text-filled : n ≡ min (length s) pathLimit → FillLoop (replicate pathLimit 0) 0 s n i b → n ≤ i → record { bytes = b; len = n } ≡ toText (take pathLimit s)
+  text-filled e h k = λ j. record { bytes = filled-bytes pathLimit s n e i b h k j; len = filled-length pathLimit s n e j }
+
+  pub name-filled : n ≡ min (length s) nameLimit → FillLoop (replicate nameLimit 0) 0 s n i b → n ≤ i → record { bytes = b; len = n } ≡ toName (take nameLimit s)
+  name-filled e h k = λ j. record { bytes = filled-bytes nameLimit s n e i b h k j; len = filled-length nameLimit s n e j }
+
+pub ruleset texts = (text-filled, name-filled, filled-source, filled-room, fills)
 
 -- a text holds what it was made of
+padded-bytes : (w : ℕ) (s : List ℕ) → take (length s) (padded w s) ≡ s
+padded-bytes w s = take-at s (replicate (w - length s) 0) (length s) refl
+
 pub text-bytes : (s : List ℕ) → textBytes (toText s) ≡ s
-text-bytes s = take-at s (replicate (pathLimit - length s) 0) (length s) refl
+text-bytes s = padded-bytes pathLimit s
+
+pub name-bytes : (s : List ℕ) → nameBytes (toName s) ≡ s
+name-bytes s = padded-bytes nameLimit s
 
 -- a text that was made of some bytes holds what they are
 pub text-holds : (p : List ℕ → Bool) (s : List ℕ) → length s ≤ pathLimit → holds p (toText s) ≡ p s
 text-holds p s h = rw (le-leb (length s) pathLimit h, text-bytes s)
+
+pub name-holds : (s : List ℕ) → length s ≤ nameLimit → holdsName (toName s) ≡ isName s
+name-holds s h = rw (le-leb (length s) nameLimit h, name-bytes s)
 
 -- the bytes of a path, a prefix or a name fit a text
 pub path-fits : (s : List ℕ) → isPath s ≡ true → length s ≤ pathLimit

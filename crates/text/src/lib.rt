@@ -1,4 +1,4 @@
-// Texts of bounded length: paths, prefixes and names.
+// Texts of bounded length: paths and prefixes, and, in `name`, names.
 ghost use mathlib.Core.Path.{_≡_};
 ghost use mathlib.Core.List.{[]};
 ghost use Prim.Native.Nat.{min};
@@ -11,12 +11,12 @@ pub mod name;
 pub mod path;
 
 // The most bytes that a path or a prefix has.
-pub const PATH_LIMIT: usize = 128;
+pub const PATH_LIMIT: usize = 512;
 
 // The most bytes that a volume's name has.
 pub const NAME_LIMIT: usize = 64;
 
-// A path, a prefix or a name: the first `len` bytes. The bytes after them are not read, and are
+// A path or a prefix: the first `len` bytes. The bytes after them are not read, and are
 // zeros in every text that this crate makes.
 pub struct Text {
     pub bytes: [u8; PATH_LIMIT],

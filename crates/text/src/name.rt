@@ -1,12 +1,20 @@
-// The rule of names.
+// Names: the rule, and the type that holds one.
 ghost use mathlib.Core.Path.{_≡_};
 ghost use mathlib.Core.Bool.{_||_};
+ghost use mathlib.Core.List.{[]};
+ghost use Prim.Native.Nat.{min};
+ghost use lib.ListN.{length, take};
 ghost use Rattle.lists.specs.Lists.{allOf};
-ghost use Rattle.text.specs.Text.{within, isNameByte, isName, holds};
+ghost use Rattle.lists.specs.Bytes.{sameBytes};
+ghost use Rattle.text.specs.Text.{nameLimit, within, isNameByte, isName, nameBytes, toName, holdsName};
 use crate::NAME_LIMIT;
-use crate::PATH_LIMIT;
-use crate::Text;
 use crate::bytes::within;
+
+// A volume's name: the first `len` bytes. The bytes after them are not read, and are zeros in every name that this crate makes.
+pub struct Name {
+    pub bytes: [u8; NAME_LIMIT],
+    pub len: usize,
+}
 
 // a-z A-Z 0-9
 fn is_letter_or_digit(b: u8) -> bool
@@ -64,12 +72,68 @@ pub fn is_name(s: &[u8]) -> bool
     name_bytes(s)
 }
 
-// Whether the text's bytes lie within its array and are a name.
-pub fn holds_name(t: Text) -> bool
-    ensures { λ r. ⌜ r ≡ holds isName t ⌝ }
+// How many bytes a name of this length holds: at most as many as its array.
+fn name_count(len: usize) -> usize
+    ensures { λ r. ⌜ r ≡ min len nameLimit ⌝ }
+{
+    if len < NAME_LIMIT { len } else { NAME_LIMIT }
+}
+
+// How many bytes the name has.
+fn name_len(t: Name) -> usize
+    ensures { λ r. ⌜ r ≡ length (nameBytes t) ⌝ }
+{
+    name_count(t.len)
+}
+
+// The first bytes of s, at most as many as a name holds.
+pub fn to_name(s: &[u8]) -> Name
+    ensures { λ r. ⌜ r ≡ toName (take nameLimit (now (s .entry))) ⌝ }
+{
+    let n = name_count(s.len());
+    let mut bytes = [0u8; NAME_LIMIT];
+    let mut i: usize = 0;
+    while i < n {
+        bytes[i] = s[i];
+        i += 1;
+    }
+    Name { bytes, len: n }
+}
+
+// The name with no byte.
+pub fn empty_name() -> Name
+    ensures { λ r. ⌜ r ≡ toName [] ⌝ }
+{
+    Name {
+        bytes: [0u8; NAME_LIMIT],
+        len: 0,
+    }
+}
+
+// Whether the name holds exactly the bytes of s.
+pub fn same_name(t: Name, s: &[u8]) -> bool
+    ensures { λ r. ⌜ r ≡ sameBytes (nameBytes t) (now (s .entry)) ⌝ }
+{
+    let n = name_len(t);
+    let b = t.bytes;
+    lists::same_bytes(&b[..n], s)
+}
+
+// Whether two names hold the same bytes.
+pub fn same_names(a: Name, b: Name) -> bool
+    ensures { λ r. ⌜ r ≡ sameBytes (nameBytes a) (nameBytes b) ⌝ }
+{
+    let n = name_len(b);
+    let s = b.bytes;
+    same_name(a, &s[..n])
+}
+
+// Whether the name's bytes lie within its array and pass the rule.
+pub fn holds_name(t: Name) -> bool
+    ensures { λ r. ⌜ r ≡ holdsName t ⌝ }
 {
     let n = t.len;
-    if PATH_LIMIT < n {
+    if NAME_LIMIT < n {
         return false;
     }
     let b = t.bytes;

@@ -4,15 +4,13 @@ use mathlib.Core.List.{List}
 use mathlib.Core.Bool.{true, _&&_}
 use mathlib.Core.Path.{_≡_, _∙_}
 use Prim.Native.Nat.{ℕ}
-use native.Mathlib.Nat.{le-trans}
-use lib.Dec.{lit≤}
 use lib.ListN.{take, set}
 use lib.Seq.{take-all}
 use Rattle.amount.specs.declared.Cap.{Cap}
 use Rattle.lists.specs.Lists.{Hit}
 use Rattle.lists.specs.BoolLaws.{and-left}
 use Rattle.lists.specs.AnswerLaws.{NoRow, AtRow, no-row, at-row}
-use Rattle.text.specs.Text.{pathLimit, isName}
+use Rattle.text.specs.Text.{nameLimit, isName}
 use Rattle.text.specs.TextLaws.{name-fits}
 use Rattle.rules.specs.declared.Account.{Account}
 use Rattle.rules.specs.declared.VolumeNo.{VolumeNo}
@@ -55,10 +53,10 @@ module _ (t : Tables) where
 
 -- a name that is one is stored whole
 pub whole-name : (t : Tables) (n : ℕ) (a : Account) (name : List ℕ) (k m : ℕ) (cap : Cap) (v : Volume) (q : Hit Volume) (x : TablesOutcome)
-    → (isName name && shardsFit k m && capFits cap) ≡ true → v ≡ newVolume n a (take pathLimit name) k m cap → x ≡ createIn t v q
+    → (isName name && shardsFit k m && capFits cap) ≡ true → v ≡ newVolume n a (take nameLimit name) k m cap → x ≡ createIn t v q
     → x ≡ createIn t (newVolume n a name k m cap) q
 whole-name t n a name k m cap v q x e f g =
-    g ∙ rw (f, take-all pathLimit name (le-trans (name-fits name (and-left _ _ (and-left _ _ e))) (lit≤ tt)))
+    g ∙ rw (f, take-all nameLimit name (name-fits name (and-left _ _ (and-left _ _ e))))
 
 -- success with a row, or with a table, that another function made
 pub accepts-row : (t : Tables) (v last coins i : ℕ) (rows : List Volume) (a b : Volume) (x : TablesOutcome)

@@ -4,7 +4,7 @@ ghost use mathlib.Core.Bool.{_&&_};
 ghost use Prim.Native.Nat.{_<_};
 ghost use lib.ListN.{take};
 ghost use Rattle.lists.specs.Lists.{hit, find};
-ghost use Rattle.text.specs.Text.{pathLimit, isName};
+ghost use Rattle.text.specs.Text.{nameLimit, isName};
 ghost use Rattle.rules.specs.Scope.{capFits};
 ghost use Rattle.rules.specs.Sound.{shardsFit};
 ghost use Rattle.rules.specs.Tables.{freeVolume};
@@ -29,11 +29,12 @@ use rules::numbers::NAME_TAKEN;
 use rules::numbers::ROOM;
 use rules::numbers::SPENT;
 use text::name::is_name;
+use text::name::to_name;
 
 fn make_volume(n: u32, a: Account, name: &[u8], k: u8, m: u8, cap: Cap) -> Volume
-    ensures { λ r. ⌜ r ≡ newVolume n a (take pathLimit (now (name .entry))) k m cap ⌝ }
+    ensures { λ r. ⌜ r ≡ newVolume n a (take nameLimit (now (name .entry))) k m cap ⌝ }
 {
-    let text = text::to_text(name);
+    let text = to_name(name);
     Volume {
         no: VolumeNo(n),
         owner: a,

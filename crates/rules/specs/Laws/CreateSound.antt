@@ -14,7 +14,7 @@ use Rattle.lists.specs.ByteLaws.{same-symmetric}
 use Rattle.lists.specs.BoolLaws.{and-left, and-right, and-both, pass-or-fail, not-pass, not-both}
 use Rattle.lists.specs.TestLaws.{all-at, any-at, none-at}
 use Rattle.lists.specs.SearchLaws.{found-at, row-passes}
-use Rattle.text.specs.Text.{isName, textBytes, toText}
+use Rattle.text.specs.Text.{isName, nameBytes, toName}
 use Rattle.rules.specs.declared.VolumeNo.{VolumeNo}
 use Rattle.rules.specs.declared.Account.{Account}
 use Rattle.rules.specs.declared.Placement.{Placement}
@@ -39,7 +39,7 @@ use Rattle.rules.specs.Laws.RowsKept.{le-given}
 use Rattle.rules.specs.Laws.Invariant.{Whole, Keeps, keeps-on, counts-grow}
 use Rattle.rules.specs.Laws.VolumesChange.{volumes-keep, volume-le}
 use Rattle.rules.specs.Laws.HeldText.{name-held}
-use Rattle.text.specs.TextLaws.{text-bytes}
+use Rattle.text.specs.TextLaws.{name-bytes}
 
 -- an entry's volume is in the table
 in-any : (t : Tables) (p : Placement) (n : VolumeNo) → soundIn t p (find (isVolume n) (t .volumes)) ≡ true → anyOf (isVolume n) (t .volumes) ≡ true
@@ -119,8 +119,8 @@ module _ (t : Tables) (inv : Whole t) where
         (λ e.
         let used : usedVolume x ≡ true = search (and-left, and-right) in
         let owner : sameBytes (x .owner .0) (a .0) ≡ true = search (and-left, and-right) in
-        let bytes : sameBytes (textBytes (x .name)) (textBytes (toText name)) ≡ true = search (and-left, and-right) in
-        not-both (and-both (and-both used owner) (rw (text-bytes name) at bytes)) h)
+        let bytes : sameBytes (nameBytes (x .name)) (nameBytes (toName name)) ≡ true = search (and-left, and-right) in
+        not-both (and-both (and-both used owner) (rw (name-bytes name) at bytes)) h)
 
     name-after : (x : Volume) → hasName a name x ≡ false → sameName v x ≡ false
     unfolding sameName hasName ownedBy
@@ -129,10 +129,10 @@ module _ (t : Tables) (inv : Whole t) where
         (λ e.
         let used : usedVolume x ≡ true = search (and-left, and-right) in
         let owner : sameBytes (a .0) (x .owner .0) ≡ true = search (and-left, and-right) in
-        let bytes : sameBytes (textBytes (toText name)) (textBytes (x .name)) ≡ true = search (and-left, and-right) in
+        let bytes : sameBytes (nameBytes (toName name)) (nameBytes (x .name)) ≡ true = search (and-left, and-right) in
         not-both
         (and-both (and-both used (same-symmetric (x .owner .0) (a .0) ∙ owner))
-        (same-symmetric (textBytes (x .name)) name ∙ rw (text-bytes name) at bytes))
+        (same-symmetric (nameBytes (x .name)) name ∙ rw (name-bytes name) at bytes))
         h)
 
     others-read : ReadSame u ws

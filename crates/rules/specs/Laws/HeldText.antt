@@ -3,13 +3,11 @@ use mathlib.Core.Path.{_≡_, _∙_}
 use mathlib.Core.Bool.{true}
 use mathlib.Core.List.{List}
 use Prim.Native.Nat.{ℕ}
-use native.Mathlib.Nat.{le-trans}
-use lib.Dec.{lit≤}
-use Rattle.text.specs.Text.{isName, isPath, isPrefix, toText, holds}
-use Rattle.text.specs.TextLaws.{text-holds, name-fits, path-fits, prefix-fits}
+use Rattle.text.specs.Text.{isName, isPath, isPrefix, toText, holds, toName, holdsName}
+use Rattle.text.specs.TextLaws.{text-holds, name-holds, name-fits, path-fits, prefix-fits}
 
-pub name-held : (s : List ℕ) → isName s ≡ true → holds isName (toText s) ≡ true
-name-held s e = text-holds isName s (le-trans (name-fits s e) (lit≤ tt)) ∙ e
+pub name-held : (s : List ℕ) → isName s ≡ true → holdsName (toName s) ≡ true
+name-held s e = name-holds s (name-fits s e) ∙ e
 
 pub path-held : (s : List ℕ) → isPath s ≡ true → holds isPath (toText s) ≡ true
 path-held s e = text-holds isPath s (path-fits s e) ∙ e

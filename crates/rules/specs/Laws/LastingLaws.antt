@@ -12,8 +12,8 @@ use Rattle.lists.specs.Bytes.{sameBytes}
 use Rattle.lists.specs.BoolLaws.{pass-or-fail}
 use Rattle.lists.specs.SearchLaws.{miss-hit}
 use Rattle.lists.specs.RowLaws.{clash-map}
-use Rattle.text.specs.declared.Text.{Text}
-use Rattle.text.specs.Text.{textBytes}
+use Rattle.text.specs.declared.name.Name.{Name}
+use Rattle.text.specs.Text.{nameBytes}
 use Rattle.rules.specs.declared.VolumeNo.{VolumeNo}
 use Rattle.rules.specs.declared.RelayNo.{RelayNo}
 use Rattle.rules.specs.declared.Account.{Account}
@@ -34,7 +34,7 @@ use Rattle.rules.specs.Laws.MappedLaws.{all-agree, sum-agree, mapHit, fo
 pub record Lasting : Type 0 where
   pub no : VolumeNo
   pub owner : Account
-  pub name : Text
+  pub name : Name
   pub k : ℕ
   pub m : ℕ
   pub cap : Cap
@@ -58,7 +58,7 @@ abbrev sameLasting : Lasting → Lasting → Bool
 sameLasting a b = numbered (a .no .0) (b .no .0)
 
 abbrev sameNamed : Lasting → Lasting → Bool
-sameNamed a b = given (a .no .0) && given (b .no .0) && sameBytes (a .owner .0) (b .owner .0) && sameBytes (textBytes (a .name)) (textBytes (b .name))
+sameNamed a b = given (a .no .0) && given (b .no .0) && sameBytes (a .owner .0) (b .owner .0) && sameBytes (nameBytes (a .name)) (nameBytes (b .name))
 
 module _ (vs ws : List Volume) (e : map lasting ws ≡ map lasting vs) where
   pub lasting-same : (n : VolumeNo) → SameFor vs ws n

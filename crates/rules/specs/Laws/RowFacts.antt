@@ -5,7 +5,7 @@ use lib.Dec.{eqb, leb}
 use Rattle.lists.specs.Lists.{find, allOf, sumOf, noClash}
 use Rattle.lists.specs.BoolLaws.{and-left, and-right, and-both}
 use Rattle.rules.specs.Laws.ApartLaws.{free-used, used-not-free, other-part, either-part}
-use Rattle.text.specs.Text.{isName, isPath, isPrefix, holds}
+use Rattle.text.specs.Text.{isPath, isPrefix, holds, holdsName}
 use Rattle.rules.specs.declared.Volume.{Volume}
 use Rattle.rules.specs.declared.Entry.{Entry}
 use Rattle.rules.specs.declared.Token.{Token}
@@ -24,7 +24,7 @@ or-last a b e = either-part a b (λ n. e)
 
 pub record VolumeFacts (t : Tables) (v : Volume) : Type 0 where
   pub numbered : isGiven (t .«last_volume») (v .no .0) ≡ true
-  pub name : holds isName (v .name) ≡ true
+  pub name : holdsName (v .name) ≡ true
   pub shards : shardsFit (v .k) (v .m) ≡ true
   pub cap : capFits (v .cap) ≡ true
   pub balance : leb (v .balance) balanceLimit ≡ true

@@ -12,7 +12,7 @@ use lib.ListN.{length, getD, length-map}
 use Rattle.lists.specs.BoolLaws.{and-both, or-left, pass-or-fail, and-right}
 use Rattle.lists.specs.TestLaws.{all-at}
 use Rattle.lists.specs.RowLaws.{map-after}
-use Rattle.text.specs.Text.{holds, isName}
+use Rattle.text.specs.Text.{holdsName}
 use Rattle.rules.specs.declared.Status.{Status}
 use Rattle.rules.specs.declared.Status.the-variants.{Active, Grace, Deleted}
 use Rattle.rules.specs.declared.Volume.{Volume}
@@ -52,7 +52,7 @@ facts-lasting : (t : Tables) (v w : Volume) → lasting w ≡ lasting v → Volu
     → soundStatus (t .clock) (w .status) (w .grace) (w .deleted) ≡ true → VolumeFacts t w
 facts-lasting t v w e f b s = record {
   numbered = ap (λ (x : Lasting). isGiven (t .«last_volume») (x .no .0)) e ∙ f .numbered;
-  name = ap (λ (x : Lasting). holds isName (x .name)) e ∙ f .name;
+  name = ap (λ (x : Lasting). holdsName (x .name)) e ∙ f .name;
   shards = ap (λ (x : Lasting). shardsFit (x .k) (x .m)) e ∙ f .shards;
   cap = ap (λ (x : Lasting). capFits (x .cap)) e ∙ f .cap;
   balance = b;

@@ -7,4 +7,4 @@ fresh-volume-spec =
     tie.close
     (tie.spec
     (λ c κs. search needs)
-    (λ c. rw (c .empty-text .ensures)))
+    (λ c. rw (c .empty-name .ensures)))

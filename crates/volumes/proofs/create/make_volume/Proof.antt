@@ -8,4 +8,4 @@ make-volume-spec =
     tie.close
     (tie.spec
     (λ c κs. search needs)
-    (λ c. rw (c .to-text .ensures)))
+    (λ c. rw (c .to-name .ensures)))
