@@ -9,6 +9,7 @@ use mir.Syntax.{w8}
 use lib.ListN.{length, take, drop, getD, replicate, length-drop, drop-of-length-le}
 use lib.Seq.{take-all, take-append-le, take-append-add, take-length, take-nil, length-take-le, paste}
 use borrow.Author.Tests.{lt-ltb, le-ltb, eq-eqb, ne-eqb}
+use Rattle.journal.specs.declared.Start.{Start}
 use Rattle.journal.specs.declared.Start.the-variants.{Records, Fault}
 use Rattle.journal.specs.declared.Next.the-variants.{End, Whole, Stop}
 use Rattle.journal.specs.declared.Number.{Number}
@@ -16,9 +17,9 @@ use Rattle.journal.specs.declared.Number.the-variants.{Value, Cut}
 use Rattle.journal.specs.declared.Reading.{Reading}
 use Rattle.journal.specs.declared.Reading.the-variants as reading
 use Rattle.journal.specs.declared.Record.{Record}
-use Rattle.journal.specs.Records.{Version, v01}
+use Rattle.journal.specs.Records.{Version, v01, v02, versionNumbered}
 use Rattle.journal.specs.Places.{RECORD, readAt, padded32}
-use Rattle.journal.specs.Journal.{journalMost, TOO-LARGE, VERSION, framed, startOf, firstByte, versionStart, versionNumbered, onBody, onReading, nextIn}
+use Rattle.journal.specs.Journal.{journalMost, TOO-LARGE, VERSION, framed, startOf, firstByte, versionStart, onBody, onReading, nextIn}
 use Rattle.journal.specs.Table.{numberAt}
 use Rattle.journal.specs.FieldLaws.{bytes-known}
 use Rattle.journal.proofs.StepLaws.{Valued, valued, valued-lt, not-there, text-cut, text-short, text-full}
@@ -49,13 +50,23 @@ module _ (l : List ℕ) where
       go [] q u = absurd (omega arith)
       go (b ∷ m) q u = rw u
 
-  pub right-version : length l ≤ journalMost → 1 ≤ length l → getD l 0 0 ≡ 1 → Records v01 ≡ startOf l
-  right-version h k e = sym (start-small h ∙ starts 1 k e)
+  pub by-version : (x : Start) → length l ≤ journalMost → 1 ≤ length l → x ≡ versionStart (versionNumbered (getD l 0 0)) → x ≡ startOf l
+  by-version x h k e = e ∙ sym (start-small h ∙ starts (getD l 0 0) k refl)
 
-  pub other-version : length l ≤ journalMost → 1 ≤ length l → (getD l 0 0 ≡ 1 → ⊥) → Fault VERSION ≡ startOf l
-  other-version h k e = sym (start-small h ∙ starts (getD l 0 0) k refl ∙ rw (ne-eqb (getD l 0 0) 1 e))
+pub ruleset start-faults = (by-version, too-large, no-version)
 
-pub ruleset start-faults = (too-large, no-version, right-version, other-version)
+-- the version of the byte n
+module _ (n : ℕ) where
+  pub version-01 : n ≡ 1 → Records v01 ≡ versionStart (versionNumbered n)
+  version-01 e = rw e
+
+  pub version-02 : n ≡ 2 → Records v02 ≡ versionStart (versionNumbered n)
+  version-02 e = rw e
+
+  pub version-none : (n ≡ 1 → ⊥) → (n ≡ 2 → ⊥) → Fault VERSION ≡ versionStart (versionNumbered n)
+  version-none f g = rw (ne-eqb n 1 f, ne-eqb n 2 g)
+
+pub ruleset versions = (version-01, version-02, version-none)
 
 -- ---- the next record
 

@@ -3,7 +3,7 @@ use mathlib.Core.Bool.{cond}
 use mathlib.Core.List.{List, [], _∷_}
 use mathlib.Core.Option.{Option, none, some}
 use Prim.Native.Nat.{ℕ, zero, suc, _+_, _-_}
-use lib.Dec.{eqb, ltb}
+use lib.Dec.{ltb}
 use lib.ListN.{length, take, drop}
 use Rattle.rules.specs.Calls.{Call}
 use Rattle.journal.specs.declared.Reading.{Reading}
@@ -13,7 +13,7 @@ use Rattle.journal.specs.declared.Start.the-variants.{Records, Fault}
 use Rattle.journal.specs.declared.Next.{Next}
 use Rattle.journal.specs.declared.Next.the-variants.{End, Whole, Stop}
 use Rattle.journal.specs.Fields.{Decoded, nothing, found, text, decode}
-use Rattle.journal.specs.Records.{Version, v01, readRecord}
+use Rattle.journal.specs.Records.{Version, versionNumbered, readRecord}
 use Rattle.journal.specs.Places.{RECORD, readAt, callRead}
 
 -- "A journal above 65,536 bytes"
@@ -75,14 +75,11 @@ recordsIn v (suc n) l = onMore v (λ rest. recordsIn v n rest) l
 abbrev pub records : Version → List ℕ → Contents
 records v l = recordsIn v (length l) l
 
-abbrev pub versionNumbered : ℕ → Option Version
-versionNumbered n = cond (eqb n 0x01) (some v01) none
-
 abbrev pub onVersion : Option Version → List ℕ → Contents
 onVersion none l = stopped VERSION
 onVersion (some v) l = records v l
 
--- "One version byte 01, then records"
+-- "One version byte 01, then records", or 02 (W1)
 abbrev pub versioned : List ℕ → Contents
 versioned [] = stopped VERSION
 versioned (b ∷ l) = onVersion (versionNumbered b) l

@@ -17,10 +17,10 @@ use Rattle.journal.specs.declared.Reading.the-variants.{Fits, Refused}
 use Rattle.journal.specs.Fields.{Decoded, nothing, found, part, asNumber, asText, decodeNumber, decodeText, decode, encode, text}
 use Rattle.journal.specs.FieldLaws.{onFound-found, cond-found, bytes-take, bytes-drop, decode-taken}
 use Rattle.journal.specs.NumberLaws.{length-bytesOf}
-use Rattle.journal.specs.Records.{Version, Parsed, unfit, parsed, parse, readRecord}
+use Rattle.journal.specs.Records.{Version, versionNumbered, Parsed, unfit, parsed, parse, readRecord}
 use Rattle.journal.specs.Places.{RECORD, readingOf, readAt, callAt}
 use Rattle.journal.specs.PlaceLaws.{reading-is-call}
-use Rattle.journal.specs.Journal.{journalMost, TOO-LARGE, Contents, framed, stopped, onFrame, onCall, recordsIn, records, onVersion, versioned, contents, versionNumbered, versionStart, firstByte, startOf, onReading, onBody, nextIn, afterStart, afterNext}
+use Rattle.journal.specs.Journal.{journalMost, TOO-LARGE, Contents, framed, stopped, onFrame, onCall, recordsIn, records, onVersion, versioned, contents, versionStart, firstByte, startOf, onReading, onBody, nextIn, afterStart, afterNext}
 
 -- a part that was found leaves so many bytes fewer
 part-shorter : (n : ℕ) (l a r : List ℕ) → part n l ≡ found a r → n + length r ≤ length l

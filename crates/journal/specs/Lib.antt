@@ -4,6 +4,7 @@ pub mod Fields
 pub mod FieldLaws
 pub mod Records
 pub mod VersionLaws
+pub mod LongerTexts
 pub mod RecordLaws
 pub mod Places
 pub mod PlaceLaws

@@ -12,24 +12,33 @@ use Rattle.rules.specs.declared.Hash.{Hash}
 use Rattle.rules.specs.Scope.{ScopeArg}
 use Rattle.rules.specs.Calls.{Ask, advance, create, deposit, delete, undelete, grant, attenuate, revoke, remove, look, register, heartbeat, Work, opens, stages, commits, abandons, Call, ask, onSlot}
 pub use Rattle.journal.specs.declared.Version.{Version}
-use Rattle.journal.specs.declared.Version.the-variants.{V01}
+use Rattle.journal.specs.declared.Version.the-variants.{V01, V02}
 use Rattle.journal.specs.declared.Kind.{Kind}
 use Rattle.journal.specs.declared.Kind.the-variants.{Advance, Create, Deposit, Delete, Undelete, Grant, Attenuate, Revoke, Open, Stage, Commit, Abandon, Remove, Look, Register, Heartbeat}
 use Rattle.journal.specs.declared.Field.{Field}
 use Rattle.journal.specs.declared.Field.the-variants as its
 use Rattle.journal.specs.Fields.{Format, number, text, bytes, cap, mode, ValueOf, ValuesOf, Decoded, nothing, found, decodeAll, encodeAll, fitsAll}
 
--- "One version byte 01"
+-- "One version byte 01"; 02, W1: "so the version byte becomes 02; a 01 journal is still read"
 abbrev pub v01 : Version
 v01 = V01
 
--- "Text is one length byte and the bytes"
+abbrev pub v02 : Version
+v02 = V02
+
+-- the version of a byte: "Missing or other version byte" names none
+abbrev pub versionNumbered : ℕ → Option Version
+versionNumbered n = cond (eqb n 0x01) (some v01) (cond (eqb n 0x02) (some v02) none)
+
+-- "Text is one length byte and the bytes"; W1: "Journal texts then need a two-byte length"
 abbrev pub textWidth : Version → ℕ
 textWidth V01 = 1
+textWidth V02 = 2
 
--- "a text above 255 bytes"
+-- "a text above 255 bytes"; W1: "A version 02 text has at most 1,024 bytes; a longer one is 27 when read, 1 when written."
 abbrev pub textMost : Version → ℕ
 textMost V01 = 255
+textMost V02 = 1024
 
 -- "Volume, token and relay numbers are u32; slot, K, M u8; account and hash 32 bytes; sizes, coins and blocks u64."
 abbrev pub formatOf : Version → Field → Format
@@ -145,6 +154,7 @@ allKinds =
 -- the kinds that a journal of the version has
 abbrev pub kinds : Version → List Kind
 kinds V01 = allKinds
+kinds V02 = allKinds
 
 -- the kind of a number among some kinds
 unfoldable pub kindAmong : ℕ → List Kind → Option Kind

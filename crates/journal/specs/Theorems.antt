@@ -5,18 +5,20 @@ use mathlib.Core.List.{List, _++_}
 use mathlib.Core.Option.{Option, none, some}
 use Prim.Native.Nat.{ℕ}
 use native.Mathlib.Omega.{arith}
+use lib.Dec.{lit≤}
 use lib.Pow.{areBytes}
 use Rattle.rules.specs.Calls.{Call}
 use Rattle.journal.specs.declared.Kind.{Kind}
 use Rattle.journal.specs.declared.Fields.{Fields}
 use Rattle.journal.specs.Fields.{found}
-use Rattle.journal.specs.Records.{Version, fieldsOf, kindNumbered, callOf, kindOf, valuesOf, parse, callParsed, readRecord, recordBytes, writeRecord, writable}
+use Rattle.journal.specs.Records.{Version, v01, v02, versionNumbered, fieldsOf, kindNumbered, callOf, kindOf, valuesOf, parse, callParsed, readRecord, recordBytes, writeRecord, writable}
 use Rattle.journal.specs.RecordLaws.{call-of-values, parse-record, parse-given, call-parsed}
 use Rattle.journal.specs.Places.{readAt, callRead}
 use Rattle.journal.specs.PlaceLaws.{reading-is-call}
 use Rattle.journal.specs.Journal.{framed, records, contents, startOf, nextIn, afterStart, afterNext}
 use Rattle.journal.specs.JournalLaws.{start-contents, next-contents}
-use Rattle.journal.specs.Writes.{valuesIn, givableAll, inFrame, kindIn, recordIn}
+use Rattle.journal.specs.Writes.{valuesIn, givableAll, inFrame, kindIn, recordIn, recordFor, recordOf}
+use Rattle.journal.specs.LongerTexts.{writable-longer}
 use Rattle.journal.specs.WriteLaws.{Sized, frame-found, record-read}
 
 -- what is written reads back as the same call, for every call that can be written
@@ -41,6 +43,14 @@ one-reading v l c d p q = cc
 -- a call has one record: no other bytes read as it
 pub one-record : (v : Version) (l m : List ℕ) (c : Call) → areBytes l ≡ true → areBytes m ≡ true → readRecord v l ≡ some c → readRecord v m ≡ some c → l ≡ m
 one-record v l m c hl hm p q = sym (read-writes-back v l c hl p) ∙ read-writes-back v m c hm q
+
+-- the records of one call in two versions stand for the same call
+pub versions-agree : (v w : Version) (c : Call) → writable v c ≡ true → writable w c ≡ true → readRecord v (writeRecord v c) ≡ readRecord w (writeRecord w c)
+versions-agree v w c h k = written-reads-back v c h ∙ sym (written-reads-back w c k)
+
+-- every record of version 01 has a record of version 02 that stands for the same call
+pub old-record-anew : (l : List ℕ) (c : Call) → areBytes l ≡ true → readRecord v01 l ≡ some c → readRecord v02 (writeRecord v02 c) ≡ some c
+old-record-anew l c h e = written-reads-back v02 c (writable-longer v01 v02 (lit≤ tt) c (read-is-writable v01 l c h e))
 
 -- what the reader answers to a list of bytes stands for the call of those bytes, or for none
 pub reader-gives-the-call : (v : Version) (l : List ℕ) → areBytes l ≡ true → callRead v (readAt v l) l ≡ readRecord v l
@@ -79,3 +89,16 @@ writer-reads-back v d t b rest s e = by-kind (kindNumbered v (d .kind)) refl e
     by-kind : (o : Option Kind) → kindNumbered v (d .kind) ≡ o → kindIn v o d t ≡ some b → ReadsBack v d t b rest
     by-kind none n e = let z : _≡_ {A = ℕ} 0 1 = cc in absurd (omega arith)
     by-kind (some k) n e = given k (givableAll v (fieldsOf v k) d t) n refl e
+
+-- the same of a version that is named by its number
+pub record ReadsBackIn (n : ℕ) (d : Fields) (t b rest : List ℕ) : Type 0 where
+  pub version : Version
+  pub named : versionNumbered n ≡ some version
+  pub reads : ReadsBack version d t b rest
+
+pub numbered-reads-back : (n : ℕ) (d : Fields) (t b rest : List ℕ) → Sized d → recordOf n d t ≡ some b → ReadsBackIn n d t b rest
+numbered-reads-back n d t b rest s e = by-version (versionNumbered n) refl e
+  where
+    by-version : (o : Option Version) → versionNumbered n ≡ o → recordFor o d t ≡ some b → ReadsBackIn n d t b rest
+    by-version none m q = let z : _≡_ {A = ℕ} 0 1 = cc in absurd (omega arith)
+    by-version (some v) m q = record { version = v; named = m; reads = writer-reads-back v d t b rest s q }

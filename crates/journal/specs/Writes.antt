@@ -20,7 +20,7 @@ use Rattle.journal.specs.declared.Size.{Size}
 use Rattle.journal.specs.declared.Size.the-variants.{Bytes, Bad}
 use Rattle.journal.specs.Numbers.{bytesOf}
 use Rattle.journal.specs.Fields.{text, ValueOf, ValuesOf, encode}
-use Rattle.journal.specs.Records.{Version, textWidth, textMost, formatOf, formsOf, fieldsOf, kindNumbered, Values, callOf, recordBytes}
+use Rattle.journal.specs.Records.{Version, versionNumbered, textWidth, textMost, formatOf, formsOf, fieldsOf, kindNumbered, Values, callOf, recordBytes}
 
 -- the mode of a number of at most 2
 abbrev pub modeIn : ℕ → Mode
@@ -77,6 +77,14 @@ kindIn v (some k) d t = cond (givableAll v (fieldsOf v k) d t) (some (inFrame (r
 -- the record with its length, or nothing: "an unknown kind, a mode above 2, a text above 255 bytes"
 unfoldable pub recordIn : Version → Fields → List ℕ → Option (List ℕ)
 recordIn v d t = kindIn v (kindNumbered v (d .kind)) d t
+
+-- the record writer "is told the version": another one is 1, as a record that the reader cannot give
+abbrev pub recordFor : Option Version → Fields → List ℕ → Option (List ℕ)
+recordFor none d t = none
+recordFor (some v) d t = recordIn v d t
+
+abbrev pub recordOf : ℕ → Fields → List ℕ → Option (List ℕ)
+recordOf n d t = recordFor (versionNumbered n) d t
 
 -- what the writer answers: how many bytes it wrote, or 1, or 12
 abbrev pub answerOf : Option (List ℕ) → ℕ → Written

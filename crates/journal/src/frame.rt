@@ -1,6 +1,7 @@
 // The frame of a journal: its version byte, and its records one after another.
 ghost use mathlib.Core.Path.{_≡_};
-ghost use Rattle.journal.specs.Journal.{startOf, nextIn};
+ghost use Rattle.journal.specs.Journal.{versionStart, startOf, nextIn};
+ghost use Rattle.journal.specs.Records.{versionNumbered};
 use super::Next;
 use super::Number;
 use super::RECORD;
@@ -15,6 +16,19 @@ use super::records::read_record;
 // The most bytes that a journal has.
 const JOURNAL_MOST: usize = 65536;
 
+// The version of a byte, or 28.
+pub fn version_named(n: u8) -> Start
+    ensures { λ r. ⌜ r ≡ versionStart (versionNumbered n) ⌝ }
+{
+    if n == 0x01 {
+        return Start::Records(Version::V01);
+    }
+    if n == 0x02 {
+        return Start::Records(Version::V02);
+    }
+    Start::Fault(VERSION)
+}
+
 // The version of a journal's records, which begin at byte 1, or the number that it stops with.
 pub fn start_of(journal: &[u8]) -> Start
     ensures { λ r. ⌜ r ≡ startOf (now (journal .entry)) ⌝ }
@@ -25,10 +39,7 @@ pub fn start_of(journal: &[u8]) -> Start
     if journal.len() < 1 {
         return Start::Fault(VERSION);
     }
-    if journal[0] == 0x01 {
-        return Start::Records(Version::V01);
-    }
-    Start::Fault(VERSION)
+    version_named(journal[0])
 }
 
 // The next record of the part of a journal that is left. Its reader is handed the part that starts after the length.

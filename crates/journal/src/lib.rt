@@ -13,6 +13,7 @@ mod table;
 use amount::Cap;
 pub use frame::next_record;
 pub use frame::start_of;
+pub use frame::version_named;
 pub use parts::account_of;
 pub use parts::hash_of;
 pub use parts::text_of;
@@ -35,6 +36,7 @@ pub const VERSION: u32 = 28;
 // The versions of a journal. They say which kinds of records it has, and how the length of a text is written.
 pub enum Version {
     V01,
+    V02,
 }
 
 // What a journal's first bytes say: the version of the records after them, or the number that it stops with.

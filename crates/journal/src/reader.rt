@@ -21,6 +21,7 @@ pub fn text_most(v: Version) -> u64
 {
     match v {
         Version::V01 => 255,
+        Version::V02 => 1024,
     }
 }
 
@@ -30,6 +31,7 @@ pub fn text_width(v: Version) -> usize
 {
     match v {
         Version::V01 => 1,
+        Version::V02 => 2,
     }
 }
 

@@ -71,15 +71,64 @@ fn show_record(body: &[u8], r: Record) {
     word(b"\n");
 }
 
-// One record's bytes.
-fn show(body: &[u8]) {
-    match journal::read_record(Version::V01, body) {
+// One record's bytes, in a version.
+fn show_in(v: Version, body: &[u8]) {
+    match journal::read_record(v, body) {
         Reading::Fits(r) => show_record(body, r),
         Reading::Refused(n) => {
             field(b"", n as u64);
             word(b"\n");
         }
     }
+}
+
+fn show(body: &[u8]) {
+    show_in(Version::V01, body);
+}
+
+fn show_02(body: &[u8]) {
+    show_in(Version::V02, body);
+}
+
+// How many bytes the text of a record has.
+fn show_length(v: Version, body: &[u8]) {
+    match journal::read_record(v, body) {
+        Reading::Fits(r) => {
+            let text = journal::text_of(body, r);
+            field(b"text of ", text.len() as u64);
+        }
+        Reading::Refused(n) => field(b"", n as u64),
+    }
+    word(b"\n");
+}
+
+fn show_front(v: Version, s: &[u8], end: usize) {
+    if s.len() < end {
+        return;
+    }
+    show_length(v, &s[0..end]);
+}
+
+// A look with a text of n bytes, after the bytes of its length: one in version 01, two in 02. The record is long enough for it.
+fn look_01(n: usize, length: u8) {
+    if 1024 < n {
+        return;
+    }
+    let mut s = [0x61u8; 1040];
+    s[0] = 0x0e;
+    s[5] = length;
+    show_front(Version::V01, &s, 6 + n);
+}
+
+fn look_02(n: usize, high: u8, low: u8) {
+    if 1025 < n {
+        return;
+    }
+    let mut s = [0x61u8; 1040];
+    s[0] = 0x0e;
+    s[5] = high;
+    s[6] = low;
+    show_front(Version::V02, &s, 7 + n);
 }
 
 // A record with one byte more after it: whole, cut by a byte, and with the byte left over.
@@ -201,7 +250,7 @@ fn show_bytes(s: &[u8]) {
 }
 
 // A record written into a buffer.
-fn written_in(kind: u8, text: &[u8], mode: u8, buf: &mut [u8]) {
+fn written_in(version: u8, kind: u8, text: &[u8], mode: u8, buf: &mut [u8]) {
     let account = ACCOUNT;
     let hash = HASH;
     let d = Fields {
@@ -218,7 +267,7 @@ fn written_in(kind: u8, text: &[u8], mode: u8, buf: &mut [u8]) {
         from: 10,
         until: 20,
     };
-    let w = journal_writer::write_record(Version::V01, d, text, buf);
+    let w = journal_writer::write_record(version, d, text, buf);
     field(b"write ", w.number as u64);
     field(b" ", w.len as u64);
     word(b" ");
@@ -226,21 +275,36 @@ fn written_in(kind: u8, text: &[u8], mode: u8, buf: &mut [u8]) {
     word(b"\n");
 }
 
-fn in_part(kind: u8, text: &[u8], text_len: usize, mode: u8, buf: &mut [u8], room: usize) {
+fn in_part(
+    version: u8,
+    kind: u8,
+    text: &[u8],
+    text_len: usize,
+    mode: u8,
+    buf: &mut [u8],
+    room: usize,
+) {
     if text.len() < text_len {
         return;
     }
     if buf.len() < room {
         return;
     }
-    written_in(kind, &text[0..text_len], mode, &mut buf[0..room]);
+    written_in(version, kind, &text[0..text_len], mode, &mut buf[0..room]);
 }
 
 // A record with a text of so many bytes, written into so many bytes of 0xee.
 fn written(kind: u8, text_len: usize, mode: u8, room: usize) {
     let text = [0x61u8; 256];
     let mut buf = [0xeeu8; 300];
-    in_part(kind, &text, text_len, mode, &mut buf, room);
+    in_part(1, kind, &text, text_len, mode, &mut buf, room);
+}
+
+// The same in any version.
+fn written_as(version: u8, kind: u8, text_len: usize, room: usize) {
+    let text = [0x61u8; 1025];
+    let mut buf = [0xeeu8; 1100];
+    in_part(version, kind, &text, text_len, 1, &mut buf, room);
 }
 
 fn kinds_1() {
@@ -348,6 +412,8 @@ fn starts_1() {
     start(b"\x00");
     start(b"\x01");
     start(b"\x02\x00");
+    start(b"\x03\x00");
+    start(b"\xff");
     start(b"\x01\x00\x09\x01\x00\x00\x00\x00\x00\x00\x0e\x10");
 }
 
@@ -398,6 +464,56 @@ fn writes_4() {
     written(14, 256, 0, 0);
 }
 
+// Texts of version 01 have a length of one byte, those of 02 one of two bytes, and at most 1,024.
+fn texts() {
+    look_01(255, 0xff);
+    look_01(256, 0xff);
+    look_02(0, 0x00, 0x00);
+    look_02(255, 0x00, 0xff);
+    look_02(256, 0x01, 0x00);
+    look_02(512, 0x02, 0x00);
+    look_02(1024, 0x04, 0x00);
+    look_02(1025, 0x04, 0x01);
+}
+
+// A record of one version is unfit in the other, and the records of one call give the same.
+fn versions() {
+    show(b"\x0e\x00\x00\x00\x02\x05\x6a\x6f\x62\x2f\x61");
+    show_02(b"\x0e\x00\x00\x00\x02\x00\x05\x6a\x6f\x62\x2f\x61");
+    show_02(b"\x0e\x00\x00\x00\x02\x05\x6a\x6f\x62\x2f\x61");
+    show(b"\x0e\x00\x00\x00\x02\x00\x05\x6a\x6f\x62\x2f\x61");
+    show_02(b"\x0e\x00\x00\x00\x02\x00");
+    show_02(b"\x0b\x02");
+    show_02(b"\x11\x02");
+}
+
+fn writes_5() {
+    written_as(2, 2, 3, 100);
+    written_as(2, 6, 3, 100);
+    written_as(2, 7, 3, 100);
+    written_as(2, 10, 3, 100);
+    written_as(2, 13, 3, 100);
+    written_as(2, 14, 3, 100);
+    written_as(2, 1, 3, 100);
+}
+
+fn writes_6() {
+    written_as(2, 14, 0, 1100);
+    written_as(2, 14, 255, 1100);
+    written_as(2, 14, 256, 1100);
+    written_as(2, 14, 512, 1100);
+    written_as(2, 14, 1024, 1100);
+    written_as(2, 14, 1025, 1100);
+    written_as(2, 14, 1024, 1032);
+}
+
+fn writes_7() {
+    written_as(0, 14, 3, 100);
+    written_as(3, 14, 3, 100);
+    written_as(255, 14, 3, 100);
+    written_as(3, 14, 3, 0);
+}
+
 fn main() {
     kinds_1();
     kinds_2();
@@ -413,4 +529,9 @@ fn main() {
     writes_2();
     writes_3();
     writes_4();
+    texts();
+    versions();
+    writes_5();
+    writes_6();
+    writes_7();
 }

@@ -2,3 +2,4 @@ pub mod OverLaws
 pub mod SizeLaws
 pub mod PutLaws
 pub mod WriteLaws
+pub mod VersionAnswers

@@ -6,7 +6,7 @@ ghost use lib.ListN.{length};
 ghost use Rattle.journal.specs.Numbers.{bytesOf};
 ghost use Rattle.journal.specs.Fields.{capBytes};
 ghost use Rattle.journal.specs.Records.{textWidth, fieldsOf};
-ghost use Rattle.journal.specs.Writes.{over, textBytes, recordIn, answerOf, bufferOf, fieldBytes, fieldsBytes, givable, givableAll, fieldSize, fieldsSize, small, sized};
+ghost use Rattle.journal.specs.Writes.{over, textBytes, recordIn, recordOf, answerOf, bufferOf, fieldBytes, fieldsBytes, givable, givableAll, fieldSize, fieldsSize, small, sized};
 use super::bytes::put_bytes;
 use super::bytes::put_number;
 use amount::Cap;
@@ -15,6 +15,7 @@ use journal::Fields;
 use journal::Kind;
 use journal::Named;
 use journal::Size;
+use journal::Start;
 use journal::Version;
 use journal::Written;
 use journal::field_count;
@@ -22,6 +23,7 @@ use journal::fields_of;
 use journal::kind_named;
 use journal::text_most;
 use journal::text_width;
+use journal::version_named;
 use rules::numbers::BAD;
 use rules::numbers::ROOM;
 
@@ -168,8 +170,8 @@ fn put_fields(v: Version, out: &mut [u8], start: usize, kind: Kind, d: Fields, t
     }
 }
 
-// The record with its length before it, at the front of the buffer; the bytes after it stay, and a refusal writes nothing.
-pub fn write_record(v: Version, d: Fields, text: &[u8], out: &mut [u8]) -> Written
+// The record of a version with its length before it, at the front of the buffer.
+fn write_in(v: Version, d: Fields, text: &[u8], out: &mut [u8]) -> Written
     ensures { λ r. ⌜ (r ≡ answerOf (recordIn v d (now (text .entry))) (length (now (out .entry)))) × (now (out .exit) ≡ bufferOf (recordIn v d (now (text .entry))) (now (out .entry))) ⌝ }
 {
     let Named::Kind(kind) = kind_named(v, d.kind) else {
@@ -195,4 +197,17 @@ pub fn write_record(v: Version, d: Fields, text: &[u8], out: &mut [u8]) -> Writt
     put_number(out, 2, 1, d.kind as u64);
     put_fields(v, out, 3, kind, d, text);
     Written { number: 0, len }
+}
+
+// A record of the version of that number. The bytes after it stay, and a refusal writes nothing.
+pub fn write_record(version: u8, d: Fields, text: &[u8], out: &mut [u8]) -> Written
+    ensures { λ r. ⌜ (r ≡ answerOf (recordOf version d (now (text .entry))) (length (now (out .entry)))) × (now (out .exit) ≡ bufferOf (recordOf version d (now (text .entry))) (now (out .entry))) ⌝ }
+{
+    let Start::Records(v) = version_named(version) else {
+        return Written {
+            number: BAD,
+            len: 0,
+        };
+    };
+    write_in(v, d, text, out)
 }

@@ -20,9 +20,9 @@ use Rattle.rules.specs.Laws.Reached.{call-keeps}
 use Rattle.rules.specs.Laws.FreshSound.{fresh-holds}
 use Rattle.journal.specs.Fields.{Decoded, nothing, found}
 use Rattle.journal.specs.declared.Version.{Version}
-use Rattle.journal.specs.Records.{parse, readRecord}
+use Rattle.journal.specs.Records.{versionNumbered, parse, readRecord}
 use Rattle.journal.specs.Places.{RECORD}
-use Rattle.journal.specs.Journal.{journalMost, TOO-LARGE, VERSION, framed, stopped, onCall, onFrame, recordsIn, records, onVersion, versionNumbered, versioned, contents}
+use Rattle.journal.specs.Journal.{journalMost, TOO-LARGE, VERSION, framed, stopped, onCall, onFrame, recordsIn, records, onVersion, versioned, contents}
 use Rattle.journal.specs.JournalLaws.{records-step, apart}
 use Rattle.printed.specs.Transcript.{firstLine, recordLine, programRate, transcript}
 use Rattle.printed.specs.TranscriptLaws.{printedFrom, from-start, from-call, from-stop, from-end}

@@ -128,7 +128,17 @@ fn transcript_buffer() -> [u8; 655381]
 fn faults() {
     show(b"no byte", b"");
     show(b"version 00", b"\x00");
+    show(b"version 03", b"\x03\x00\x05\x10\x00\x00\x00\x01");
     show(b"version 02", b"\x02\x00\x05\x10\x00\x00\x00\x01");
+    show(b"version 02 alone", b"\x02");
+    show(
+        b"a look of version 01 in a journal of version 02",
+        b"\x02\x00\x08\x0e\x00\x00\x00\x01\x02\x61\x62",
+    );
+    show(
+        b"and of version 02",
+        b"\x02\x00\x09\x0e\x00\x00\x00\x01\x00\x02\x61\x62",
+    );
     show(b"the version alone", b"\x01");
     show(b"a lone byte after it", b"\x01\x00");
     show(b"a record of length 0", b"\x01\x00\x00");

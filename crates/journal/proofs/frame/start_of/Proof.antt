@@ -11,5 +11,5 @@ start-of-spec =
     (λ c. search start-faults)  -- TOO_LARGE
     (λ c. search start-faults)  -- VERSION: no byte
     (λ c. search needs)
-    (λ c. search start-faults)
-    (λ c. search start-faults))  -- VERSION: another byte
+    (λ c κs. search needs)
+    (λ c. search start-faults))  -- by the byte

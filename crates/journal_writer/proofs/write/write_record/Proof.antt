@@ -1,5 +1,5 @@
--- `write_record` meets its contract: measured, then length, kind and fields. Assumes nothing.
-use Rattle.journal_writer.proofs.WriteLaws.{answers, lays}
+-- `write_record` meets its contract: a number that names no version is refused. Assumes nothing.
+use Rattle.journal_writer.proofs.VersionAnswers.{in-version}
 use borrow.Author.Needs.{needs}
 use Rattle.journal_writer.proofs.write.write_record.Statement.{statement}
 use Rattle.journal_writer.proofs.write.write_record.Tie as tie
@@ -11,17 +11,7 @@ write-record-spec =
     (λ c κs. search needs)
     (λ c. search needs)
     (λ c. search needs)
-    (λ c. search answers)  -- BAD: no kind
+    (λ c. (search in-version, search in-version))  -- BAD: no version
     (λ c κs. search needs)
     (λ c. search needs)
-    (λ c. search needs)
-    (λ c. search answers)  -- BAD: a field that the reader cannot give
-    (λ c. search lays)
-    (λ c. search answers)  -- ROOM
-    (λ c. search needs)
-    (λ c κs. search needs)
-    (λ c. search needs)
-    (λ c κs. search needs)
-    (λ c κs. (search lays, search lays))
-    (λ c. search needs)
-    (λ c. (search answers, search answers)))
+    (λ c. (search in-version, search in-version)))
