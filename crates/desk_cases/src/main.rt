@@ -1,11 +1,11 @@
 // Histories on the desk, made by hand from document 01: each refusal of each of the sixteen calls, each pair of neighbouring
 // checks broken at once, accepted calls with their values, and 01's cases "Checked by hand" that are about the desk.
 //
-// It prints a line for each call: its name, its fields, the answer and the value; an accepted look has the hash's first byte
+// It prints a line for each call: its name, its fields (but for texts of hundreds of bytes, whose length is said), the answer and the value; an accepted look has the hash's first byte
 // too. Lines that begin with "--" say what the calls below are about or what was set by hand; indented lines are rows of the
 // desk. A desk is a value, so that one desk may be called several times: the source says which.
 //
-// Every line of the file stdout was worked out from document 01 by hand before the program was first run.
+// Every line of the file stdout was worked out from document 01, as W1 of 02 amends it, by hand before the program was first run.
 mod block_cases;
 mod calls;
 mod commit_cases;

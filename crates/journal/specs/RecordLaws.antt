@@ -88,6 +88,13 @@ number-among Heartbeat = refl
 pub number-of-kind : (v : Version) (k : Kind) → kindNumbered v (kindNumber k) ≡ some k
 number-of-kind v k = ap (kindAmong (kindNumber k)) (kinds-all v) ∙ number-among k
 
+-- a number names the same kind in every version
+pub one-kind : (v w : Version) (n : ℕ) (j k : Kind) → kindNumbered v n ≡ some j → kindNumbered w n ≡ some k → j ≡ k
+one-kind v w n j k e f =
+    let same : kindNumbered v n ≡ kindNumbered w n = ap (kindAmong n) (kinds-all v) ∙ sym (ap (kindAmong n) (kinds-all w)) in
+    let z : some j ≡ some k = sym e ∙ same ∙ f in
+    cc
+
 pub kind-of-number : (n : ℕ) (ks : List Kind) (k : Kind) → kindAmong n ks ≡ some k → n ≡ kindNumber k
 unfolding kindAmong
 kind-of-number n [] k e = cc
@@ -98,6 +105,11 @@ kind-of-number n (j ∷ ks) k e = go (eqb n (kindNumber j)) refl e (kind-of-numb
     go false t e r = r e
 
 -- ---- records and their bytes
+
+-- the bytes of a record are those of its call
+pub record-of-call : (v : Version) (k : Kind) (x : Values v k) → recordBytes v k x ≡ writeRecord v (callOf v k x)
+unfolding writeRecord
+record-of-call v k x = sym (ap (λ (s : Sorted v). recordBytes v (s .0) (s .1)) (values-of-call v k x))
 
 -- a record that is written is parsed as its kind and values
 pub parse-record : (v : Version) (k : Kind) (x : Values v k) → fitsAll (formsOf v (fieldsOf v k)) x ≡ true → parse v (recordBytes v k x) ≡ parsed k x

@@ -12,14 +12,14 @@ use Rattle.journal.specs.declared.Kind.{Kind}
 use Rattle.journal.specs.declared.Fields.{Fields}
 use Rattle.journal.specs.Fields.{found}
 use Rattle.journal.specs.Records.{Version, v01, v02, versionNumbered, fieldsOf, kindNumbered, callOf, kindOf, valuesOf, parse, callParsed, readRecord, recordBytes, writeRecord, writable}
-use Rattle.journal.specs.RecordLaws.{call-of-values, parse-record, parse-given, call-parsed}
+use Rattle.journal.specs.RecordLaws.{call-of-values, parse-record, parse-given, call-parsed, record-of-call, one-kind}
 use Rattle.journal.specs.Places.{readAt, callRead}
 use Rattle.journal.specs.PlaceLaws.{reading-is-call}
 use Rattle.journal.specs.Journal.{framed, records, contents, startOf, nextIn, afterStart, afterNext}
 use Rattle.journal.specs.JournalLaws.{start-contents, next-contents}
 use Rattle.journal.specs.Writes.{valuesIn, givableAll, inFrame, kindIn, recordIn, recordFor, recordOf}
 use Rattle.journal.specs.LongerTexts.{writable-longer}
-use Rattle.journal.specs.WriteLaws.{Sized, frame-found, record-read}
+use Rattle.journal.specs.WriteLaws.{Sized, frame-found, record-read, given-alike}
 
 -- what is written reads back as the same call, for every call that can be written
 pub written-reads-back : (v : Version) (c : Call) → writable v c ≡ true → readRecord v (writeRecord v c) ≡ some c
@@ -67,6 +67,7 @@ next-gives-the-contents = next-contents
 pub record ReadsBack (v : Version) (d : Fields) (t b rest : List ℕ) : Type 0 where
   pub kind : Kind
   pub numbered : kindNumbered v (d .kind) ≡ some kind
+  pub bytes : b ≡ inFrame (recordBytes v kind (valuesIn v (fieldsOf v kind) d t))
   pub framed-again : framed (b ++ rest) ≡ found (recordBytes v kind (valuesIn v (fieldsOf v kind) d t)) rest
   pub read-again : readRecord v (recordBytes v kind (valuesIn v (fieldsOf v kind) d t)) ≡ some (callOf v kind (valuesIn v (fieldsOf v kind) d t))
 
@@ -81,6 +82,7 @@ writer-reads-back v d t b rest s e = by-kind (kindNumbered v (d .kind)) refl e
         record {
           kind = k;
           numbered = n;
+          bytes = sym eb;
           framed-again = rw (← eb) (frame-found v k d t rest s g);
           read-again = record-read v k d t s g;
         }
@@ -102,3 +104,22 @@ numbered-reads-back n d t b rest s e = by-version (versionNumbered n) refl e
     by-version : (o : Option Version) → versionNumbered n ≡ o → recordFor o d t ≡ some b → ReadsBackIn n d t b rest
     by-version none m q = let z : _≡_ {A = ℕ} 0 1 = cc in absurd (omega arith)
     by-version (some v) m q = record { version = v; named = m; reads = writer-reads-back v d t b rest s q }
+
+-- the other way round: bytes that are read as the call of the fields are the ones that the writer gives for them
+pub read-is-written : (v : Version) (d : Fields) (t b rest l : List ℕ) → (r : ReadsBack v d t b rest) → areBytes l ≡ true
+    → readRecord v l ≡ some (callOf v (r .kind) (valuesIn v (fieldsOf v (r .kind)) d t)) → b ≡ inFrame l
+read-is-written v d t b rest l r h e =
+    let k = r .kind in
+    let x = valuesIn v (fieldsOf v k) d t in
+    r .bytes ∙ ap inFrame (record-of-call v k x ∙ read-writes-back v l (callOf v k x) h e)
+
+-- the records that the writer gives for the same fields in two versions stand for the same call
+abbrev pub callBack : (n : ℕ) (d : Fields) (t b rest : List ℕ) → ReadsBackIn n d t b rest → Call
+callBack n d t b rest r = callOf (r .version) (r .reads .kind) (valuesIn (r .version) (fieldsOf (r .version) (r .reads .kind)) d t)
+
+pub writers-agree : (n m : ℕ) (d : Fields) (t b c rest left : List ℕ) (x : ReadsBackIn n d t b rest) (y : ReadsBackIn m d t c left)
+    → callBack n d t b rest x ≡ callBack m d t c left y
+writers-agree n m d t b c rest left x y =
+    let k : y .reads .kind ≡ x .reads .kind = one-kind (y .version) (x .version) (d .kind) (y .reads .kind) (x .reads .kind) (y .reads .numbered) (x .reads .numbered) in
+    given-alike (x .version) (y .version) (x .reads .kind) d t
+    ∙ ap (λ (j : Kind). callOf (y .version) j (valuesIn (y .version) (fieldsOf (y .version) j) d t)) (sym k)

@@ -131,3 +131,22 @@ pub record-read : (v : Version) (k : Kind) (d : Fields) (t : List ℕ) → Sized
     → readRecord v (recordBytes v k (valuesIn v (fieldsOf v k) d t)) ≡ some (callOf v k (valuesIn v (fieldsOf v k) d t))
 unfolding readRecord
 record-read v k d t s g = ap (callParsed v) (parse-record v k (valuesIn v (fieldsOf v k) d t) (all-fit v (fieldsOf v k) d t s g))
+
+-- what the writer is given stands for the same call in every version
+pub given-alike : (v w : Version) (k : Kind) (d : Fields) (t : List ℕ) → callOf v k (valuesIn v (fieldsOf v k) d t) ≡ callOf w k (valuesIn w (fieldsOf w k) d t)
+given-alike v w Advance d t = refl
+given-alike v w Create d t = refl
+given-alike v w Deposit d t = refl
+given-alike v w Delete d t = refl
+given-alike v w Undelete d t = refl
+given-alike v w Grant d t = refl
+given-alike v w Attenuate d t = refl
+given-alike v w Revoke d t = refl
+given-alike v w Open d t = refl
+given-alike v w Stage d t = refl
+given-alike v w Commit d t = refl
+given-alike v w Abandon d t = refl
+given-alike v w Remove d t = refl
+given-alike v w Look d t = refl
+given-alike v w Register d t = refl
+given-alike v w Heartbeat d t = refl

@@ -1,5 +1,5 @@
 -- Document 01, "Journal": "The record writer refuses a record the reader can't give (an unknown kind, a mode above 2, a text above 255 bytes) with 1,
--- then a short buffer with 12." Assumes nothing.
+-- then a short buffer with 12." 02, W1: "A version 02 text has at most 1,024 bytes; a longer one is .. 1 when written." Assumes nothing.
 use mathlib.Core.Bool.{Bool, true, false, _&&_, cond}
 use mathlib.Core.List.{List, [], _∷_, _++_}
 use mathlib.Core.Option.{Option, none, some}
@@ -46,7 +46,7 @@ abbrev pub valuesIn : (v : Version) (fs : List Field) → Fields → List ℕ �
 valuesIn v [] d t = tt
 valuesIn v (f ∷ fs) d t = (valueIn v f d t, valuesIn v fs d t)
 
--- the reader can give the field: "a mode above 2, a text above 255 bytes"
+-- the reader can give the field: "a mode above 2, a text above 255 bytes", or above 1,024 in version 02
 abbrev pub givable : Version → Field → Fields → List ℕ → Bool
 givable v its.Account d t = true
 givable v its.No d t = true
@@ -74,11 +74,11 @@ abbrev pub kindIn : Version → Option Kind → Fields → List ℕ → Option (
 kindIn v none d t = none
 kindIn v (some k) d t = cond (givableAll v (fieldsOf v k) d t) (some (inFrame (recordBytes v k (valuesIn v (fieldsOf v k) d t)))) none
 
--- the record with its length, or nothing: "an unknown kind, a mode above 2, a text above 255 bytes"
+-- the record with its length, or nothing: an unknown kind, or a field that the reader cannot give
 unfoldable pub recordIn : Version → Fields → List ℕ → Option (List ℕ)
 recordIn v d t = kindIn v (kindNumbered v (d .kind)) d t
 
--- the record writer "is told the version": another one is 1, as a record that the reader cannot give
+-- the record writer is told the number of the version (docs/DECISIONS.md): one that there is not is 1, as a record that the reader cannot give
 abbrev pub recordFor : Option Version → Fields → List ℕ → Option (List ℕ)
 recordFor none d t = none
 recordFor (some v) d t = recordIn v d t

@@ -33,7 +33,8 @@ pub const TOO_LARGE: u32 = 24;
 
 pub const VERSION: u32 = 28;
 
-// The versions of a journal. They say which kinds of records it has, and how the length of a text is written.
+// The versions of a journal. They say which kinds of records it has, how the length of a text is written, and
+// how long a text may be.
 pub enum Version {
     V01,
     V02,

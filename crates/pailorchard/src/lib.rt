@@ -20,7 +20,7 @@ use rules::Desk;
 use rules::numbers::ROOM;
 use soundness::is_sound;
 
-// Whether a text is a path of 01.
+// Whether a text is a path of 01 and W1.
 #[no_mangle]
 pub extern "C" fn pailorchard_is_path(text: &[u8]) -> bool
     ensures { λ r. ⌜ r ≡ isPath (now (text .entry)) ⌝ }
@@ -28,7 +28,7 @@ pub extern "C" fn pailorchard_is_path(text: &[u8]) -> bool
     text::path::is_path(text)
 }
 
-// Whether a text is a prefix of 01.
+// Whether a text is a prefix of 01 and W1.
 #[no_mangle]
 pub extern "C" fn pailorchard_is_prefix(text: &[u8]) -> bool
     ensures { λ r. ⌜ r ≡ isPrefix (now (text .entry)) ⌝ }

@@ -108,7 +108,7 @@ text-holds p s h = rw (le-leb (length s) pathLimit h, text-bytes s)
 pub name-holds : (s : List ℕ) → length s ≤ nameLimit → holdsName (toName s) ≡ isName s
 name-holds s h = rw (le-leb (length s) nameLimit h, name-bytes s)
 
--- the bytes of a path, a prefix or a name fit a text
+-- the bytes of a path or a prefix fit a text, and those of a name a name
 pub path-fits : (s : List ℕ) → isPath s ≡ true → length s ≤ pathLimit
 unfolding isPath
 path-fits s e =

@@ -1,7 +1,6 @@
 // Names: the rule, and the type that holds one.
 ghost use mathlib.Core.Path.{_≡_};
 ghost use mathlib.Core.Bool.{_||_};
-ghost use mathlib.Core.List.{[]};
 ghost use Prim.Native.Nat.{min};
 ghost use lib.ListN.{length, take};
 ghost use Rattle.lists.specs.Lists.{allOf};
@@ -98,16 +97,6 @@ pub fn to_name(s: &[u8]) -> Name
         i += 1;
     }
     Name { bytes, len: n }
-}
-
-// The name with no byte.
-pub fn empty_name() -> Name
-    ensures { λ r. ⌜ r ≡ toName [] ⌝ }
-{
-    Name {
-        bytes: [0u8; NAME_LIMIT],
-        len: 0,
-    }
 }
 
 // Whether the name holds exactly the bytes of s.

@@ -1,4 +1,4 @@
--- Laws of a text that holds a name, a path or a prefix: it passes the test that its bytes pass. Assumes nothing.
+-- Laws of a text that holds a path or a prefix, and of a name: it passes the test that its bytes pass. Assumes nothing.
 use mathlib.Core.Path.{_≡_, _∙_}
 use mathlib.Core.Bool.{true}
 use mathlib.Core.List.{List}

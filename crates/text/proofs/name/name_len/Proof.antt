@@ -1,4 +1,4 @@
--- `name::name_len` meets its contract: a text has its array's length or less. Assumes nothing.
+-- `name::name_len` meets its contract: a name has its array's length or less. Assumes nothing.
 use Rattle.text.specs.TextLaws.{length-text}
 use borrow.Author.Needs.{needs}
 use Rattle.text.proofs.name.name_len.Statement.{statement}

@@ -1,4 +1,4 @@
--- `make_volume` meets its contract: a text is made of the name, and the rest is as it starts. Assumes nothing.
+-- `make_volume` meets its contract: the name is made, and the rest is as it starts. Assumes nothing.
 use borrow.Author.Needs.{needs}
 use Rattle.volumes.proofs.create.make_volume.Statement.{statement}
 use Rattle.volumes.proofs.create.make_volume.Tie as tie
