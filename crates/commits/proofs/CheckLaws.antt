@@ -10,7 +10,7 @@ use lib.ListN.{take, getD}
 use Rattle.lists.specs.declared.Found.{Found}
 use Rattle.lists.specs.declared.Found.the-variants.{At, Nothing}
 use Rattle.lists.specs.Lists.{Hit, hit, miss, find, firstAt, allOf}
-use Rattle.lists.specs.BoolLaws.{and-left, and-right, not-both}
+use Rattle.lists.specs.BoolLaws.{not-both}
 use Rattle.lists.specs.SearchLaws.{first-row, first-miss}
 use Rattle.lists.specs.AnswerLaws.{NoRow, AtRow, no-row, at-row, some-given}
 use Rattle.rules.specs.declared.VolumeNo.{VolumeNo}
@@ -73,28 +73,27 @@ module _ (clock : ℕ) (volumes : List Volume) (relays : List Relay) (s : Sessio
       record { volume = λ z. absurd (omega (arith, z, e, ltb-true 0 m h)); placing = λ z. absurd (omega (arith, z, e, ltb-true 0 m h)) }
 
 -- the faults of the two rows, one after the other: x is the number that is given back
-module _ (clock rate : ℕ) (tokens : List Token) (relays : List Relay) (s : Session) (kept rows : ℕ) (v : Volume) (k : Token) (x f : ℕ)
+module _ (clock rate : ℕ) (ks : List Token) (relays : List Relay) (s : Session) (kept rows : ℕ) (v : Volume) (k : Token) (x f : ℕ)
     (e : f ≡ tokenFault clock v (s .version) k) where
-  pub fault-first : (f ≡ 0 → ⊥) → x ≡ f → x ≡ rowsFault clock rate tokens relays s kept rows v k
+  pub fault-first : (f ≡ 0 → ⊥) → x ≡ f → x ≡ rowsFault clock rate ks relays s kept rows v k
   unfolding rowsFault
   fault-first n q = q ∙ rw (← e, ne-eqb f 0 n)
 
-  module _ (z : f ≡ 0) (bytes : ℕ) (ks : List Token) (l : ℕ) (b : bytes ≡ stagedBytes (staged s)) (a : ks ≡ family tokens k)
-      (g : l ≡ limitsFault rate v ks bytes kept rows) where
-    same-over : limitsFault rate v (family tokens k) (stagedBytes (staged s)) kept rows ≡ l
-    same-over = sym (rw (a, b) at g)
+  module _ (z : f ≡ 0) (bytes l : ℕ) (b : bytes ≡ stagedBytes (staged s)) (g : l ≡ limitsFault rate v ks bytes kept rows) where
+    same-over : limitsFault rate v ks (stagedBytes (staged s)) kept rows ≡ l
+    same-over = sym (rw b at g)
 
-    pub fault-next : (l ≡ 0 → ⊥) → x ≡ l → x ≡ rowsFault clock rate tokens relays s kept rows v k
+    pub fault-next : (l ≡ 0 → ⊥) → x ≡ l → x ≡ rowsFault clock rate ks relays s kept rows v k
     unfolding rowsFault
     fault-next n q = q ∙ rw (← e, z, same-over, ne-eqb l 0 n)
 
     module _ (y : l ≡ 0) (c : Bool) (places : List Placement) (rs : List Relay)
         (p : placedBy c places rs ≡ placeAll clock (v .k) (v .m) (take (s .count) (s .puts)) relays) where
-      pub fault-place : not c ≡ true → x ≡ NO-PLACE → x ≡ rowsFault clock rate tokens relays s kept rows v k
+      pub fault-place : not c ≡ true → x ≡ NO-PLACE → x ≡ rowsFault clock rate ks relays s kept rows v k
       unfolding rowsFault
       fault-place n q = q ∙ rw (← e, z, same-over, y, ← p, not-true c n)
 
-      pub no-fault : not c ≡ false → x ≡ 0 → x ≡ rowsFault clock rate tokens relays s kept rows v k
+      pub no-fault : not c ≡ false → x ≡ 0 → x ≡ rowsFault clock rate ks relays s kept rows v k
       unfolding rowsFault
       no-fault n q = q ∙ rw (← e, z, same-over, y, ← p, not-false c n)
 
@@ -111,21 +110,21 @@ module _ (number clock : ℕ) (relays : List Relay) (s : Session) (v : Volume) (
   placed-all c p n = record { placing = λ z. sym (rw (not-false c n) at p) }
 
 -- the row of the volume, as a number; and then that of the token, which is there or not
-module _ (clock rate : ℕ) (tokens : List Token) (relays : List Relay) (s : Session) (kept rows : ℕ) where
-  pub volume-none : (h : Hit Token) (n : VolumeNo) (volumes : List Volume) → NoRow (faultBy clock rate tokens relays s kept rows h) (isVolume n) volumes
-  volume-none h n volumes = no-row (faultBy clock rate tokens relays s kept rows h) _ _
+module _ (clock rate : ℕ) (ks : List Token) (relays : List Relay) (s : Session) (kept rows : ℕ) where
+  pub volume-none : (h : Hit Token) (n : VolumeNo) (volumes : List Volume) → NoRow (faultBy clock rate ks relays s kept rows h) (isVolume n) volumes
+  volume-none h n volumes = no-row (faultBy clock rate ks relays s kept rows h) _ _
 
   pub volume-at : (h : Hit Token) (n : VolumeNo) (volumes : List Volume)
-      → AtRow (faultBy clock rate tokens relays s kept rows h) (isVolume n) volumes blankVolume
-  volume-at h n volumes = at-row (faultBy clock rate tokens relays s kept rows h) _ _ _
+      → AtRow (faultBy clock rate ks relays s kept rows h) (isVolume n) volumes blankVolume
+  volume-at h n volumes = at-row (faultBy clock rate ks relays s kept rows h) _ _ _
 
   module _ (v : Volume) (there : Bool) (k : Token) (x : ℕ) where
-    pub token-none : not there ≡ true → x ≡ NO-TOKEN → x ≡ faultAt clock rate tokens relays s kept rows v (rowIf there k)
+    pub token-none : not there ≡ true → x ≡ NO-TOKEN → x ≡ faultAt clock rate ks relays s kept rows v (rowIf there k)
     unfolding faultAt
     token-none g q = q ∙ rw (not-true there g)
 
-    pub token-at : not there ≡ false → x ≡ rowsFault clock rate tokens relays s kept rows v k
-        → x ≡ faultAt clock rate tokens relays s kept rows v (rowIf there k)
+    pub token-at : not there ≡ false → x ≡ rowsFault clock rate ks relays s kept rows v k
+        → x ≡ faultAt clock rate ks relays s kept rows v (rowIf there k)
     unfolding faultAt
     token-at g q = q ∙ rw (not-false there g)
 
@@ -143,29 +142,23 @@ fails-in a false c d e = rw (and-false a)
 fails-in a true false d e = rw (and-false (a && true))
 fails-in a true true d e = absurd (not-both refl e)
 
--- the verdict x of a commit: what was read of the entries, and whether they and the tokens are within their limits, r
+-- the verdict x of a commit: what was read of the entries, and r, whether the tokens are within their limits
 module _ (t : Tables) (s : Session) (x : Verdict) (ms : List Bool) (within : Bool) (kept rows : ℕ) (r : Bool)
-    (w : Surveyed (s .volume) (staged s) (t .entries) ms within kept rows) (l : r ≡ (within && allOf tokenWithin (t .tokens))) (running : s .token .0 ≡ 0 → ⊥) where
-  past-limits : not r ≡ true → commitWithin t s ≡ slotRefused t s BAD
+    (w : Surveyed (s .volume) (staged s) (t .entries) ms within kept rows) (l : r ≡ allOf tokenWithin (t .tokens)) (running : s .token .0 ≡ 0 → ⊥) where
+  past-limits : (within && r) ≡ false → commitWithin t s ≡ slotRefused t s BAD
   unfolding commitWithin inLimits
   past-limits g =
-      let n : (within && allOf tokenWithin (t .tokens)) ≡ false = sym l ∙ not-true r g in
-      let m : (allOf entryWithin (t .entries) && allOf tokenWithin (t .tokens)) ≡ false = rw (w .limits) at n in
+      let m : (allOf entryWithin (t .entries) && allOf tokenWithin (t .tokens)) ≡ false = rw (w .limits, l) at g in
       rw (
         some-given (s .token .0) running,
         fails-in (sessionWithin s && allOf volumeWithin (t .volumes)) (allOf entryWithin (t .entries)) (allOf tokenWithin (t .tokens)) (allOf relayWithin (t .relays)) m,
       )
 
-  module _ (g : not r ≡ false) (there : Bool) (j : ℕ) (k : Token) (number : ℕ) (f : find (isToken (s .token)) (t .tokens) ≡ cond there (hit j k) miss)
-      (e : number ≡ rowsNumber (t .clock) (t .rate) (t .volumes) (t .tokens) (t .relays) s (rowIf there k) kept rows) where
-    both-in : (within && allOf tokenWithin (t .tokens)) ≡ true
-    both-in = sym l ∙ not-false r g
-
-    entries-in : within ≡ true
-    entries-in = and-left within (allOf tokenWithin (t .tokens)) both-in
-
+  module _ (entries-in : within ≡ true) (g : r ≡ true) (there : Bool) (j : ℕ) (k : Token) (number : ℕ)
+      (f : find (isToken (s .token)) (t .tokens) ≡ cond there (hit j k) miss)
+      (e : number ≡ rowsNumber (t .clock) (t .rate) (t .volumes) (family (t .tokens) k) (t .relays) s (rowIf there k) kept rows) where
     tokens-in : allOf tokenWithin (t .tokens) ≡ true
-    tokens-in = and-right within (allOf tokenWithin (t .tokens)) both-in
+    tokens-in = sym l ∙ g
 
     refusal-judged : (number ≡ 0 → ⊥) → x ≡ record { number = number; plan = noPlan } → Judged t s (commitWithin t s) x
     unfolding tokenOf
@@ -196,8 +189,8 @@ module _ (clock rate : ℕ) (volumes : List Volume) (entries : List Entry) (toke
       record { judged = λ t ec er ev ee et el. judged-refusal t s (commitWithin t s) x SESSION q (λ z. absurd (omega (arith, z))) (idle-stopped t s i) }
 
   module _ (ms : List Bool) (within : Bool) (kept rows : ℕ) (r : Bool) (w : Surveyed (s .volume) (staged s) entries ms within kept rows)
-      (l : r ≡ (within && allOf tokenWithin tokens)) (running : s .token .0 ≡ 0 → ⊥) where
-    pub in-limits : not r ≡ true → x ≡ record { number = BAD; plan = noPlan } → JudgedIn clock rate volumes entries tokens relays s x
+      (l : r ≡ allOf tokenWithin tokens) (running : s .token .0 ≡ 0 → ⊥) where
+    in-limits : (within && r) ≡ false → x ≡ record { number = BAD; plan = noPlan } → JudgedIn clock rate volumes entries tokens relays s x
     in-limits g q =
         record {
           judged =
@@ -205,26 +198,48 @@ module _ (clock rate : ℕ) (volumes : List Volume) (entries : List Entry) (toke
               judged-refusal t s (commitWithin t s) x BAD q (λ z. absurd (omega (arith, z))) (past-limits t s x ms within kept rows r (rw ee w) (rw et l) running g);
         }
 
-    module _ (g : not r ≡ false) (there : Bool) (j : ℕ) (k : Token) (number : ℕ) (f : find (isToken (s .token)) tokens ≡ cond there (hit j k) miss)
-        (e : number ≡ rowsNumber clock rate volumes tokens relays s (rowIf there k) kept rows) where
+    pub in-entries : not within ≡ true → x ≡ record { number = BAD; plan = noPlan } → JudgedIn clock rate volumes entries tokens relays s x
+    in-entries g = in-limits (rw (not-true within g))
+
+    pub in-tokens : not r ≡ true → x ≡ record { number = BAD; plan = noPlan } → JudgedIn clock rate volumes entries tokens relays s x
+    in-tokens g = in-limits (rw (not-true r g) (and-false within))
+
+    module _ (g : not within ≡ false) (y : not r ≡ false) (there : Bool) (j : ℕ) (k : Token) (ks : List Token) (number : ℕ)
+        (f : find (isToken (s .token)) tokens ≡ cond there (hit j k) miss) (a : ks ≡ family tokens k)
+        (e : number ≡ rowsNumber clock rate volumes ks relays s (rowIf there k) kept rows) where
       pub in-refused : (number ≡ 0 → ⊥) → x ≡ record { number = number; plan = noPlan } → JudgedIn clock rate volumes entries tokens relays s x
       in-refused n q =
           record {
             judged =
                 λ t ec er ev ee et el.
-                refusal-judged t s x ms within kept rows r (rw ee w) (rw et l) running g there j k number (rw et f) (rw (ec, er, ev, et, el) e) n q;
+                refusal-judged t s x ms within kept rows r (rw ee w) (rw et l) running (not-false within g) (not-false r y) there j k number (rw et f)
+                (rw (ec, er, ev, et, el, ← a) e) n q;
           }
 
       pub in-passed : number ≡ 0 → (i : ℕ) (places : List Placement) (rs : List Relay) → RowsIf number clock volumes relays s i (take (s .count) places) rs → i < 8
           → j < 32 → x ≡ record { number = 0; plan = record { volume = i; token = j; places = places; relays = rs; marks = ms } }
           → JudgedIn clock rate volumes entries tokens relays s x
-      in-passed z i places rs a h u q =
+      in-passed z i places rs b h u q =
           record {
             judged =
                 λ t ec er ev ee et el.
-                passed-judged t s x ms within kept rows r (rw ee w) (rw et l) running g there j k number (rw et f) (rw (ec, er, ev, et, el) e) z i places rs
-                (rw (ec, ev, el) a) h u q;
+                passed-judged t s x ms within kept rows r (rw ee w) (rw et l) running (not-false within g) (not-false r y) there j k number (rw et f)
+                (rw (ec, er, ev, et, el, ← a) e) z i places rs (rw (ec, ev, el) b) h u q;
           }
+
+  -- no family has more than 8
+  pub in-long : (n : ℕ) → 8 < n → n ≤ 8 → JudgedIn clock rate volumes entries tokens relays s x
+  in-long n h k = absurd (omega arith)
+
+-- a verdict that is given by what was read, of any tables of which it was read
+pub given-judged : (clock rate : ℕ) (volumes : List Volume) (entries : List Entry) (tokens : List Token) (relays : List Relay) (s : Session) (x : Verdict)
+    (ms : List Bool) (within : Bool) (kept rows : ℕ) (r there : Bool) (j : ℕ) (k : Token) (ks : List Token) (n : ℕ)
+    → ((es : List Entry) (ts : List Token) → Surveyed (s .volume) (take (s .count) (s .puts)) es ms within kept rows → r ≡ allOf tokenWithin ts
+    → find (isToken (s .token)) ts ≡ cond there (hit j k) miss → j < 32 → ks ≡ family ts k → n ≤ 8 → JudgedIn clock rate volumes es ts relays s x)
+    → Surveyed (s .volume) (take (s .count) (s .puts)) entries ms within kept rows → r ≡ allOf tokenWithin tokens
+    → find (isToken (s .token)) tokens ≡ cond there (hit j k) miss → j < 32 → ks ≡ family tokens k → n ≤ 8
+    → JudgedIn clock rate volumes entries tokens relays s x
+given-judged clock rate volumes entries tokens relays s x ms within kept rows r there j k ks n g w l f h a b = g entries tokens w l f h a b
 
 -- what a commit answers by its verdict x
 module _ (t : Tables) (s : Session) (x : Verdict) (j : JudgedIn (t .clock) (t .rate) (t .volumes) (t .entries) (t .tokens) (t .relays) s x) (v : SlotOutcome) where

@@ -1,4 +1,3 @@
-pub mod FamilyLaws
 pub mod QuotaLaws
 pub mod PlaceLoops
 pub mod SizeLaws

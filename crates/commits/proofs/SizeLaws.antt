@@ -1,5 +1,5 @@
 -- The loop over the staged sizes, and the rent that a commit tests. Assumes nothing.
-use mathlib.Core.Path.{_≡_, refl, _∙_}
+use mathlib.Core.Path.{_≡_, _∙_}
 use mathlib.Core.Bool.{true}
 use mathlib.Core.List.{List, [], _∷_}
 use Prim.Native.Nat.{ℕ, _+_, _*_, _<_, _≤_, _^_}
@@ -8,11 +8,10 @@ use mir.Val.{Fits}
 use mir.Syntax.{w64}
 use borrow.Author.Needs.{needs}
 use lib.Dec.{ltb}
-use lib.ListN.{take, getD, length-take}
-use lib.Seq.{getD-take}
-use Rattle.lists.specs.Lists.{allOf, sumOf, total}
+use lib.ListN.{take, getD}
+use Rattle.lists.specs.Lists.{allOf, total}
 use Rattle.lists.specs.RowLaws.{rows-length}
-use Rattle.lists.specs.LoopLaws.{SumLoop, sum-start, sum-all, sum-adds, sum-within}
+use Rattle.lists.specs.LoopLaws.{SumLoop, sum-start, sum-all}
 use Rattle.rules.specs.declared.Volume.{Volume}
 use Rattle.rules.specs.declared.Put.{Put}
 use Rattle.rules.specs.Sound.{shardsFit}
@@ -23,19 +22,8 @@ use Rattle.rents.specs.declared.Rent.the-variants.{Coins, PastLimits}
 use Rattle.rents.specs.Within.{rentWithin}
 use Rattle.rents.specs.WithinLaws.{rent-within}
 use Rattle.surveys.specs.RowLimits.{putWithin}
-use Rattle.commits.specs.CommitSums.{staged-small}
+use Rattle.commits.specs.CommitSums.{staged-small, sum-adds-part, sum-within-part}
 use Rattle.surveys.specs.SurveyedLaws.{part-size}
-
--- a sum over the first rows of a table: the row's number is added, and the sum is no more than the whole
-module _ {A : Type 0} (d : A) (f : A → ℕ) (l : List A) (k n i sum : ℕ) (h : SumLoop f (take k l) n i sum) (w : i < n) where
-  low : i < k
-  low = omega (arith, h .size, length-take k l)
-
-  sum-adds-part : SumLoop f (take k l) n (i + 1) (sum + f (getD l i d))
-  sum-adds-part = sum-adds d f (take k l) n i sum (f (getD l i d)) (sum + f (getD l i d)) h w (rw (getD-take k l i d low)) refl
-
-  sum-within-part : sum + f (getD l i d) ≤ sumOf f (take k l)
-  sum-within-part = rw (getD-take k l i d low) at (sum-within d f (take k l) n i sum h w)
 
 -- the staged sizes
 module _ (puts : List Put) (count : ℕ) (few : count ≤ 8) (fit : allOf putWithin (take count puts) ≡ true) where

@@ -15,7 +15,7 @@ use Rattle.rules.specs.declared.Session.{Session}
 use Rattle.rules.specs.Limits.{putRows, entryRows}
 use Rattle.rules.specs.Numbers.{BAD, NO-VOLUME, NO-TOKEN, QUOTA, SIZE, ROOM, RENT, NO-PLACE}
 use Rattle.rules.specs.Tables.{staged, isVolume}
-use Rattle.rules.specs.Scope.{passesCap, passesQuota, family}
+use Rattle.rules.specs.Scope.{passesCap, passesQuota}
 use Rattle.rules.specs.Sound.{shardsFit}
 use Rattle.rules.specs.Rent.{rentFor}
 use Rattle.rules.specs.Commit.{Placed, noPlace, placed, stagedBytes, placeAll}
@@ -44,26 +44,26 @@ placeFault (placed places rs) = 0
 abbrev pub placingOf : ℕ → List Relay → Session → Volume → Placed
 placingOf clock relays s v = placeAll clock (v .k) (v .m) (staged s) relays
 
--- of the two rows, one check after the other
+-- of the two rows, one check after the other, where `ks` are the token and its ancestors
 unfoldable pub rowsFault : ℕ → ℕ → List Token → List Relay → Session → ℕ → ℕ → Volume → Token → ℕ
-rowsFault clock rate tokens relays s kept rows v k =
+rowsFault clock rate ks relays s kept rows v k =
     orElse (tokenFault clock v (s .version) k)
-    (orElse (limitsFault rate v (family tokens k) (stagedBytes (staged s)) kept rows) (placeFault (placingOf clock relays s v)))
+    (orElse (limitsFault rate v ks (stagedBytes (staged s)) kept rows) (placeFault (placingOf clock relays s v)))
 
 -- 4
 unfoldable pub faultAt : ℕ → ℕ → List Token → List Relay → Session → ℕ → ℕ → Volume → Hit Token → ℕ
-faultAt clock rate tokens relays s kept rows v miss = NO-TOKEN
-faultAt clock rate tokens relays s kept rows v (hit j k) = rowsFault clock rate tokens relays s kept rows v k
+faultAt clock rate ks relays s kept rows v miss = NO-TOKEN
+faultAt clock rate ks relays s kept rows v (hit j k) = rowsFault clock rate ks relays s kept rows v k
 
 -- 2, where h is the token's row
 unfoldable pub faultBy : ℕ → ℕ → List Token → List Relay → Session → ℕ → ℕ → Hit Token → Hit Volume → ℕ
-faultBy clock rate tokens relays s kept rows h miss = NO-VOLUME
-faultBy clock rate tokens relays s kept rows h (hit i v) = faultAt clock rate tokens relays s kept rows v h
+faultBy clock rate ks relays s kept rows h miss = NO-VOLUME
+faultBy clock rate ks relays s kept rows h (hit i v) = faultAt clock rate ks relays s kept rows v h
 
 -- 1, then by the rows, where h is the token's row
 unfoldable pub rowsNumber : ℕ → ℕ → List Volume → List Token → List Relay → Session → Hit Token → ℕ → ℕ → ℕ
-rowsNumber clock rate volumes tokens relays s h kept rows =
-    cond (not (canCheck volumes relays s kept)) BAD (faultBy clock rate tokens relays s kept rows h (find (isVolume (s .volume)) volumes))
+rowsNumber clock rate volumes ks relays s h kept rows =
+    cond (not (canCheck volumes relays s kept)) BAD (faultBy clock rate ks relays s kept rows h (find (isVolume (s .volume)) volumes))
 
 -- what the placing of a session's puts rests on
 pub record Ready (relays : List Relay) (s : Session) (v : Volume) : Type 0 where

@@ -115,7 +115,7 @@ module _ (t : Tables) (s : Session) (i : ℕ) (v : Volume) (k : Token) where
         ∙ two (slotRefused t s) placing limits-number place-number
 
     by-rows : (j : ℕ) → commitToken t s i v (hit j k)
-        ≡ answered (slotRefused t s) placing (rowsFault (t .clock) (t .rate) (t .tokens) (t .relays) s kept rows v k)
+        ≡ answered (slotRefused t s) placing (rowsFault (t .clock) (t .rate) (family (t .tokens) k) (t .relays) s kept rows v k)
     unfolding rowsFault
     by-rows j =
         by-token j
@@ -172,8 +172,8 @@ module _ (vs : List Volume) (n : VolumeNo) (i : ℕ) (v : Volume) (q : find (isV
   number-found = ap numberAs (numbered-eq (n .0) (v .no .0) (row-passes (isVolume n) vs 0 i v q))
 
 -- where every check passed
-module _ (clock rate : ℕ) (volumes : List Volume) (tokens : List Token) (relays : List Relay) (s : Session) (there : Bool) (k : Token) (kept rows number : ℕ)
-    (e : number ≡ rowsNumber clock rate volumes tokens relays s (rowIf there k) kept rows) (z : number ≡ 0) where
+module _ (clock rate : ℕ) (volumes : List Volume) (ks : List Token) (relays : List Relay) (s : Session) (there : Bool) (k : Token) (kept rows number : ℕ)
+    (e : number ≡ rowsNumber clock rate volumes ks relays s (rowIf there k) kept rows) (z : number ≡ 0) where
   all-parts : canCheck volumes relays s kept ≡ true
   unfolding rowsNumber
   all-parts = go (canCheck volumes relays s kept) refl
@@ -186,7 +186,7 @@ module _ (clock rate : ℕ) (volumes : List Volume) (tokens : List Token) (relay
     abbrev v : Volume
     v = getD volumes i blankVolume
 
-    passed-at : faultAt clock rate tokens relays s kept rows v (rowIf there k) ≡ 0
+    passed-at : faultAt clock rate ks relays s kept rows v (rowIf there k) ≡ 0
     unfolding rowsNumber faultBy
     passed-at = sym (rw (all-parts, r .volume z) at e) ∙ z
 
@@ -194,11 +194,11 @@ module _ (clock rate : ℕ) (volumes : List Volume) (tokens : List Token) (relay
     unfolding faultAt
     passed-there = go there passed-at
       where
-        go : (b : Bool) → faultAt clock rate tokens relays s kept rows v (rowIf b k) ≡ 0 → b ≡ true
+        go : (b : Bool) → faultAt clock rate ks relays s kept rows v (rowIf b k) ≡ 0 → b ≡ true
         go true q = refl
         go false q = absurd (omega (arith, q))
 
-    passed-rows : rowsFault clock rate tokens relays s kept rows v k ≡ 0
+    passed-rows : rowsFault clock rate ks relays s kept rows v k ≡ 0
     unfolding faultAt
     passed-rows = rw passed-there at passed-at
 
@@ -224,9 +224,9 @@ module _ (clock rate : ℕ) (volumes : List Volume) (tokens : List Token) (relay
         last-passes false false false false q = refl
 
     -- so the puts can be stored
-    pub passed-store : i < 8 → (j : ℕ) → j < 32 → allOf tokenWithin tokens ≡ true → canStore volumes tokens s i j ≡ true
+    pub passed-store : (tokens : List Token) → i < 8 → (j : ℕ) → j < 32 → allOf tokenWithin tokens ≡ true → canStore volumes tokens s i j ≡ true
     unfolding canStore
-    passed-store h j u w =
+    passed-store tokens h j u w =
         and-both
         (and-both (and-both (and-both (lt-ltb i 8 h) (lt-ltb (v .version) lastVersion passed-version)) (session-ok volumes relays s kept all-parts)) w)
         (lt-ltb j 32 u)
@@ -243,7 +243,7 @@ stores-answer t s ms i v k places rs o m h =
 module _ (t : Tables) (s : Session) (ms : List Bool) (within : Bool) (kept rows : ℕ) (there : Bool) (j : ℕ) (k : Token) (number : ℕ)
     (running : s .token .0 ≡ 0 → ⊥) (entries-in : within ≡ true) (tokens-in : allOf tokenWithin (t .tokens) ≡ true)
     (w : Surveyed (s .volume) (staged s) (t .entries) ms within kept rows) (f : tokenOf (s .token) t ≡ cond there (hit j k) miss)
-    (e : number ≡ rowsNumber (t .clock) (t .rate) (t .volumes) (t .tokens) (t .relays) s (rowIf there k) kept rows) where
+    (e : number ≡ rowsNumber (t .clock) (t .rate) (t .volumes) (family (t .tokens) k) (t .relays) s (rowIf there k) kept rows) where
   abbrev can : Bool
   can = canCheck (t .volumes) (t .relays) s kept
 
@@ -255,7 +255,7 @@ module _ (t : Tables) (s : Session) (ms : List Bool) (within : Bool) (kept rows 
       rw (g, tokens-in, l) (simp and-true)
 
   at-rows : can ≡ true → (i : ℕ) (v : Volume) → find (isVolume (s .volume)) (t .volumes) ≡ hit i v
-      → commitToken t s i v (hit j k) ≡ answered (slotRefused t s) (placing t s i v k) (rowsFault (t .clock) (t .rate) (t .tokens) (t .relays) s kept rows v k)
+      → commitToken t s i v (hit j k) ≡ answered (slotRefused t s) (placing t s i v k) (rowsFault (t .clock) (t .rate) (family (t .tokens) k) (t .relays) s kept rows v k)
   at-rows ok i v q =
       let m = number-found (t .volumes) (s .volume) i v q in
       let h = session-ok (t .volumes) (t .relays) s kept ok in
@@ -272,13 +272,13 @@ module _ (t : Tables) (s : Session) (ms : List Bool) (within : Bool) (kept rows 
 
   module _ (n : number ≡ 0 → ⊥) where
     stops-at : can ≡ true → (i : ℕ) (v : Volume) → find (isVolume (s .volume)) (t .volumes) ≡ hit i v → (b : Bool)
-        → number ≡ faultAt (t .clock) (t .rate) (t .tokens) (t .relays) s kept rows v (rowIf b k) → commitToken t s i v (cond b (hit j k) miss) ≡ slotRefused t s number
+        → number ≡ faultAt (t .clock) (t .rate) (family (t .tokens) k) (t .relays) s kept rows v (rowIf b k) → commitToken t s i v (cond b (hit j k) miss) ≡ slotRefused t s number
     unfolding commitToken faultAt
     stops-at ok i v q false g = rw g
     stops-at ok i v q true g = at-rows ok i v q ∙ rw (← g, ne-eqb number 0 n)
 
     stops-in : can ≡ true → (h : Hit Volume) → find (isVolume (s .volume)) (t .volumes) ≡ h
-        → number ≡ faultBy (t .clock) (t .rate) (t .tokens) (t .relays) s kept rows (rowIf there k) h → commitVolume t s h ≡ slotRefused t s number
+        → number ≡ faultBy (t .clock) (t .rate) (family (t .tokens) k) (t .relays) s kept rows (rowIf there k) h → commitVolume t s h ≡ slotRefused t s number
     unfolding commitVolume faultBy
     stops-in ok miss q g = rw g
     stops-in ok (hit i v) q g = rw f (stops-at ok i v q there g)
@@ -299,9 +299,9 @@ module _ (t : Tables) (s : Session) (ms : List Bool) (within : Bool) (kept rows 
     passes-checked : checked ≡ commitPlaced t s i row k (placed (take (s .count) places) rs)
     unfolding commitVolume volumeOf
     passes-checked =
-        let ok = all-parts (t .clock) (t .rate) (t .volumes) (t .tokens) (t .relays) s there k kept rows number e z in
-        let yes = passed-there (t .clock) (t .rate) (t .volumes) (t .tokens) (t .relays) s there k kept rows number e z i (take (s .count) places) rs r in
-        let none = passed-rows (t .clock) (t .rate) (t .volumes) (t .tokens) (t .relays) s there k kept rows number e z i (take (s .count) places) rs r in
+        let ok = all-parts (t .clock) (t .rate) (t .volumes) (family (t .tokens) k) (t .relays) s there k kept rows number e z in
+        let yes = passed-there (t .clock) (t .rate) (t .volumes) (family (t .tokens) k) (t .relays) s there k kept rows number e z i (take (s .count) places) rs r in
+        let none = passed-rows (t .clock) (t .rate) (t .volumes) (family (t .tokens) k) (t .relays) s there k kept rows number e z i (take (s .count) places) rs r in
         rw (same-parts, ok, r .volume z, f, yes) (at-rows ok i row (r .volume z) ∙ rw (none, r .placing z))
 
     -- and so it answers 0
@@ -311,7 +311,7 @@ module _ (t : Tables) (s : Session) (ms : List Bool) (within : Bool) (kept rows 
 
     token-there : tokenOf (s .token) t ≡ hit j k
     token-there =
-        let yes = passed-there (t .clock) (t .rate) (t .volumes) (t .tokens) (t .relays) s there k kept rows number e z i (take (s .count) places) rs r in
+        let yes = passed-there (t .clock) (t .rate) (t .volumes) (family (t .tokens) k) (t .relays) s there k kept rows number e z i (take (s .count) places) rs r in
         f ∙ rw yes
 
     token-row : getD (t .tokens) j blankToken ≡ k
@@ -326,7 +326,7 @@ module _ (t : Tables) (s : Session) (ms : List Bool) (within : Bool) (kept rows 
     parts-stored o h u g =
         let m : ms ≡ map (isReplaced (row .no) (staged s)) (t .entries) = rw (number-found (t .volumes) (s .volume) i row (r .volume z)) (w .replaced) in
         let can-store =
-        passed-store (t .clock) (t .rate) (t .volumes) (t .tokens) (t .relays) s there k kept rows number e z i (take (s .count) places) rs r h j u tokens-in in
+        passed-store (t .clock) (t .rate) (t .volumes) (family (t .tokens) k) (t .relays) s there k kept rows number e z i (take (s .count) places) rs r (t .tokens) h j u tokens-in in
         stores-answer t s ms i row k (take (s .count) places) rs o m (rw token-row at (g .stored can-store)) ∙ sym passes-checked ∙ sym runs
 
 -- 19

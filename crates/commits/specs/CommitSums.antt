@@ -1,15 +1,17 @@
 -- The sums of sizes that a commit tests, and its rent, as its rule has them. Assumes nothing.
-use mathlib.Core.Path.{_≡_, sym, _∙_, ap}
+use mathlib.Core.Path.{_≡_, refl, sym, _∙_, ap}
 use mathlib.Core.Bool.{Bool, true}
 use mathlib.Core.List.{List, [], _∷_, map}
-use Prim.Native.Nat.{ℕ, _+_, _*_, _≤_, _^_}
+use Prim.Native.Nat.{ℕ, _+_, _*_, _<_, _≤_, _^_}
 use native.Mathlib.Omega.{arith}
 use borrow.Author.Tests.{leb-true}
 use lib.Dec.{ltb}
 use lib.ListN.{take, getD, length-take}
-use Rattle.lists.specs.Lists.{allOf, keep, total}
+use lib.Seq.{getD-take}
+use Rattle.lists.specs.Lists.{allOf, sumOf, keep, total}
 use Rattle.lists.specs.TestLaws.{all-at}
 use Rattle.lists.specs.RowLaws.{sum-total}
+use Rattle.lists.specs.LoopLaws.{SumLoop, sum-adds, sum-within}
 use Rattle.lists.specs.SumLaws.{sum-le, total-append}
 use Rattle.rules.specs.declared.VolumeNo.{VolumeNo}
 use Rattle.rules.specs.declared.Volume.{Volume}
@@ -25,6 +27,17 @@ use Rattle.rules.specs.Commit.{putSize, stagedBytes, isKept, sizesAfter, passes
 use Rattle.rents.specs.WithinLaws.{rent-within}
 use Rattle.surveys.specs.RowLimits.{putWithin}
 use Rattle.surveys.specs.Survey.{keptBytes}
+
+-- a sum over the first rows of a table: the row's number is added, and the sum is no more than the whole
+module _ {A : Type 0} (d : A) (f : A → ℕ) (l : List A) (k n i sum : ℕ) (h : SumLoop f (take k l) n i sum) (w : i < n) where
+  low : i < k
+  low = omega (arith, h .size, length-take k l)
+
+  pub sum-adds-part : SumLoop f (take k l) n (i + 1) (sum + f (getD l i d))
+  sum-adds-part = sum-adds d f (take k l) n i sum (f (getD l i d)) (sum + f (getD l i d)) h w (rw (getD-take k l i d low)) refl
+
+  pub sum-within-part : sum + f (getD l i d) ≤ sumOf f (take k l)
+  sum-within-part = rw (getD-take k l i d low) at (sum-within d f (take k l) n i sum h w)
 
 -- the staged sizes
 module _ (puts : List Put) (count : ℕ) (few : count ≤ 8) (fit : allOf putWithin (take count puts) ≡ true) where

@@ -7,3 +7,5 @@ pub mod Verdicts
 pub mod WithinLaws
 pub mod CommitSums
 pub mod CommitSteps
+pub mod FamilyLaws
+pub mod ChargeLaws

@@ -2,7 +2,7 @@
 ghost use mathlib.Core.Path.{_≡_};
 ghost use mathlib.Core.Bool.{true};
 ghost use mathlib.Core.List.{map};
-ghost use Prim.Native.Nat.{_+_, _≤_, _^_};
+ghost use Prim.Native.Nat.{_+_, _≤_, _^_, min};
 ghost use Rattle.lists.specs.Lists.{allOf, anyOf};
 ghost use Rattle.rules.specs.Tables.{numbered, withUsed};
 ghost use Rattle.rules.specs.Scope.{family};
@@ -12,15 +12,15 @@ ghost use Rattle.surveys.specs.RowLimits.{tokenWithin};
 use super::family::Family;
 use super::family::family_of;
 use rows::is_number;
+use rows::put_count;
 use rules::Token;
 
 // Their numbers, and zeros after them.
-fn numbers_of(f: Family) -> [u32; 8]
-    requires { ⌜ f .len ≤ 8 ⌝ }
-    ensures { λ r. ⌜ r ≡ numbersOf (f .tokens) (f .len) ⌝ }
+pub fn numbers_of(f: Family) -> [u32; 8]
+    ensures { λ r. ⌜ r ≡ numbersOf (f .tokens) (min (f .len) 8) ⌝ }
 {
     let tokens = f.tokens;
-    let count = f.len;
+    let count = put_count(f.len);
     let mut numbers = [0u32; 8];
     let mut j: usize = 0;
     while j < count {
@@ -31,7 +31,7 @@ fn numbers_of(f: Family) -> [u32; 8]
 }
 
 // Whether n is one of the numbers.
-fn is_member(numbers: &[u32], n: u32) -> bool
+pub fn is_member(numbers: &[u32], n: u32) -> bool
     ensures { λ r. ⌜ r ≡ anyOf (numbered n) (now (numbers .entry)) ⌝ }
 {
     let mut j: usize = 0;

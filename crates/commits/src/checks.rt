@@ -9,7 +9,6 @@ ghost use Rattle.rows.specs.Blank.{blankVolume};
 ghost use Rattle.rows.specs.Links.{rowIf};
 ghost use Rattle.commits.specs.Checks.{limitsFault, rowsFault, rowsNumber, Ready, PlacedIf, RowsIf};
 use super::family::Family;
-use super::family::family_of;
 use super::family::passes_cap;
 use super::family::passes_quotas;
 use super::placings::Places;
@@ -82,12 +81,12 @@ fn limits_fault(rate: u16, v: Volume, f: Family, bytes: u64, kept: u64, rows: us
     0
 }
 
-// From the rows of the volume and of the token k on: their checks, then the placing of the puts.
+// From the rows of the volume and of the token k on: their checks, then the placing of the puts. `f` is the token and its ancestors.
 fn rows_check(
     clock: u64,
     rate: u16,
     volumes: [Volume; 8],
-    tokens: [Token; 32],
+    f: Family,
     relays: [Relay; 32],
     i: usize,
     k: Token,
@@ -95,8 +94,8 @@ fn rows_check(
     kept: u64,
     rows: usize,
 ) -> Placing
-    requires { ⌜ Ready relays s (getD volumes i blankVolume) × (i < 8) × (kept ≤ 64 * 2 ^ 36) ⌝ }
-    ensures { λ r. ⌜ (r .number ≡ rowsFault clock rate tokens relays s kept rows (getD volumes i blankVolume) k) × PlacedIf (r .number) clock relays s (getD volumes i blankVolume) (take (s .count) (r .p .places)) (r .p .rows) ⌝ }
+    requires { ⌜ Ready relays s (getD volumes i blankVolume) × (i < 8) × (kept ≤ 64 * 2 ^ 36) × (f .len ≤ 8) ⌝ }
+    ensures { λ r. ⌜ (r .number ≡ rowsFault clock rate (take (f .len) (f .tokens)) relays s kept rows (getD volumes i blankVolume) k) × PlacedIf (r .number) clock relays s (getD volumes i blankVolume) (take (s .count) (r .p .places)) (r .p .rows) ⌝ }
 {
     let v = volumes[i];
     let fault = token_fault(clock, v, s.version, k);
@@ -105,7 +104,6 @@ fn rows_check(
     }
     let puts = s.puts;
     let bytes = staged_bytes(puts, s.count);
-    let f = family_of(tokens, k);
     let over = limits_fault(rate, v, f, bytes, kept, rows);
     if over != 0 {
         return unplaced(over, relays);
@@ -117,13 +115,13 @@ fn rows_check(
     Placing { number: 0, p }
 }
 
-// The checks of a running session's commit, from the session's limits on. `k` is the row of its token, if it is there; `kept` and `rows` are what was
-// read of the entries.
+// The checks of a running session's commit, from the session's limits on. `k` is the row of its token, if it is there, and `f` that
+// token and its ancestors; `kept` and `rows` are what was read of the entries.
 pub(crate) fn check_rows(
     clock: u64,
     rate: u16,
     volumes: [Volume; 8],
-    tokens: [Token; 32],
+    f: Family,
     relays: [Relay; 32],
     s: Session,
     there: bool,
@@ -131,7 +129,8 @@ pub(crate) fn check_rows(
     kept: u64,
     rows: usize,
 ) -> Checked
-    ensures { λ r. ⌜ (r .number ≡ rowsNumber clock rate volumes tokens relays s (rowIf there k) kept rows) × RowsIf (r .number) clock volumes relays s (r .row) (take (s .count) (r .p .places)) (r .p .rows) × (r .row < 8) ⌝ }
+    requires { ⌜ f .len ≤ 8 ⌝ }
+    ensures { λ r. ⌜ (r .number ≡ rowsNumber clock rate volumes (take (f .len) (f .tokens)) relays s (rowIf there k) kept rows) × RowsIf (r .number) clock volumes relays s (r .row) (take (s .count) (r .p .places)) (r .p .rows) × (r .row < 8) ⌝ }
 {
     if !can_check(volumes, relays, s, kept) {
         return failed(BAD, relays);
@@ -143,7 +142,7 @@ pub(crate) fn check_rows(
     if !there {
         return failed(NO_TOKEN, relays);
     }
-    let one = rows_check(clock, rate, volumes, tokens, relays, i, k, s, kept, rows);
+    let one = rows_check(clock, rate, volumes, f, relays, i, k, s, kept, rows);
     let p = one.p;
     Checked {
         number: one.number,

@@ -1,17 +1,20 @@
 // Commit: the checks of its row, the placing of its puts, then its effect.
 ghost use mathlib.Core.Path.{_≡_};
 ghost use mathlib.Core.Bool.{true, cond};
+ghost use mathlib.Core.List.{List};
 ghost use Prim.Native.Nat.{_≤_, _<_};
 ghost use lib.ListN.{getD, take};
 ghost use Rattle.lists.specs.Lists.{hit, miss, find, allOf};
 ghost use Rattle.rules.specs.Limits.{lastVersion};
+ghost use Rattle.rules.specs.declared.Entry.{Entry};
+ghost use Rattle.rules.specs.declared.Token.{Token};
 ghost use Rattle.rules.specs.Tables.{isToken};
+ghost use Rattle.rules.specs.Scope.{family};
 ghost use Rattle.rows.specs.Blank.{blankVolume, blankToken};
 ghost use Rattle.commits.specs.Parts.{onCommit};
 ghost use Rattle.surveys.specs.RowLimits.{tokenWithin, putWithin};
+ghost use Rattle.surveys.specs.Survey.{Surveyed};
 ghost use Rattle.commits.specs.Within.{commitWithin};
-ghost use Rattle.rows.specs.Links.{rowIf};
-ghost use Rattle.commits.specs.Checks.{rowsNumber, RowsIf};
 ghost use Rattle.commits.specs.Stored.{StoredAs, StoredBy};
 ghost use Rattle.commits.specs.Verdicts.{noPlan, JudgedIn};
 use super::CommitOutcome;
@@ -19,8 +22,9 @@ use super::Plan;
 use super::Verdict;
 use super::answers::refuse;
 use super::charge::charge;
-use super::checks::Checked;
 use super::checks::check_rows;
+use super::family::Family;
+use super::family::family_of;
 use super::sizes::staged_bytes;
 use entries::any_mark;
 use entries::give_back;
@@ -36,6 +40,7 @@ use rules::TokenNo;
 use rules::Volume;
 use rules::numbers::BAD;
 use rules::numbers::SESSION;
+use surveys::Findings;
 use surveys::can_store;
 use surveys::others_within;
 use surveys::survey;
@@ -134,49 +139,6 @@ fn token_row(tokens: [Token; 32], n: TokenNo) -> TokenRow
     }
 }
 
-// The checks with the token's row.
-pub(crate) struct RowChecks {
-    pub there: bool,
-    pub at: usize,
-    pub row: Token,
-    pub c: Checked,
-}
-
-fn check_found(
-    clock: u64,
-    rate: u16,
-    volumes: [Volume; 8],
-    tokens: [Token; 32],
-    relays: [Relay; 32],
-    s: Session,
-    kept: u64,
-    rows: usize,
-) -> RowChecks
-    ensures { λ r. ⌜ (find (isToken (s .token)) tokens ≡ cond (r .there) (hit (r .at) (r .row)) miss) × (r .c .number ≡ rowsNumber clock rate volumes tokens relays s (rowIf (r .there) (r .row)) kept rows) × RowsIf (r .c .number) clock volumes relays s (r .c .row) (take (s .count) (r .c .p .places)) (r .c .p .rows) × (r .c .row < 8) × (r .at < 32) ⌝ }
-{
-    let n = s.token;
-    let x = token_row(tokens, n);
-    let k = x.row;
-    let c = check_rows(
-        clock,
-        rate,
-        volumes,
-        tokens,
-        relays,
-        s,
-        x.there,
-        k,
-        kept,
-        rows,
-    );
-    RowChecks {
-        there: x.there,
-        at: x.at,
-        row: k,
-        c,
-    }
-}
-
 // The verdict with this number and no plan: for a refusal, so for any number but 0.
 pub fn refusing(number: u32) -> Verdict
     ensures { λ r. ⌜ r ≡ record { number = number; plan = noPlan } ⌝ }
@@ -196,6 +158,53 @@ pub fn refusing(number: u32) -> Verdict
     Verdict { number, plan }
 }
 
+// The checks of a commit, by what was read of the tables: `e` of the entries; `within`, whether the tokens are within their limits; the token's row, with
+// its place, or that it has none; and the token and its ancestors. The number of the refusal, or 0 with the plan to store it by.
+pub fn check_given(
+    clock: u64,
+    rate: u16,
+    volumes: [Volume; 8],
+    relays: [Relay; 32],
+    s: Session,
+    e: Findings,
+    within: bool,
+    there: bool,
+    at: usize,
+    k: Token,
+    f: Family,
+) -> Verdict
+    ensures { λ r. ⌜ ((entries : List Entry) (tokens : List Token) → Surveyed (s .volume) (take (s .count) (s .puts)) entries (e .marks) (e .within) (e .kept) (e .rows) → within ≡ allOf tokenWithin tokens → find (isToken (s .token)) tokens ≡ cond there (hit at k) miss → at < 32 → take (f .len) (f .tokens) ≡ family tokens k → f .len ≤ 8 → JudgedIn clock rate volumes entries tokens relays s r) ⌝ }
+{
+    if s.token.0 == 0 {
+        return refusing(SESSION);
+    }
+    if !e.within {
+        return refusing(BAD);
+    }
+    if !within {
+        return refusing(BAD);
+    }
+    if 8 < f.len {
+        return refusing(BAD);
+    }
+    let c = check_rows(clock, rate, volumes, f, relays, s, there, k, e.kept, e.rows);
+    if c.number != 0 {
+        return refusing(c.number);
+    }
+    let p = c.p;
+    let places = p.places;
+    let loaded = p.rows;
+    let marks = e.marks;
+    let plan = Plan {
+        volume: c.row,
+        token: at,
+        places,
+        relays: loaded,
+        marks,
+    };
+    Verdict { number: 0, plan }
+}
+
 // The checks of a commit, over the parts of the tables that they read: the number of the refusal, or 0 with the plan to store it by. No table
 // changes, so a caller that asks first hands the tables to the storing only for a commit that is not refused.
 pub fn check_commit(
@@ -212,29 +221,24 @@ pub fn check_commit(
     let puts = s.puts;
     let n = s.volume;
     let e = survey(entries, n, puts, s.count);
-    if s.token.0 == 0 {
-        return refusing(SESSION);
-    }
-    if !others_within(e.within, tokens) {
-        return refusing(BAD);
-    }
-    let x = check_found(clock, rate, volumes, tokens, relays, s, e.kept, e.rows);
-    let c = x.c;
-    if c.number != 0 {
-        return refusing(c.number);
-    }
-    let p = c.p;
-    let places = p.places;
-    let loaded = p.rows;
-    let marks = e.marks;
-    let plan = Plan {
-        volume: c.row,
-        token: x.at,
-        places,
-        relays: loaded,
-        marks,
-    };
-    Verdict { number: 0, plan }
+    let within = others_within(true, tokens);
+    let no = s.token;
+    let x = token_row(tokens, no);
+    let k = x.row;
+    let f = family_of(tokens, k);
+    check_given(
+        clock,
+        rate,
+        volumes,
+        relays,
+        s,
+        e,
+        within,
+        x.there,
+        x.at,
+        k,
+        f,
+    )
 }
 
 // The session's puts are stored.

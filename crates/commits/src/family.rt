@@ -6,31 +6,33 @@ ghost use Rattle.lists.specs.Lists.{anyOf};
 ghost use Rattle.rules.specs.Scope.{family, passesCap, passesQuota};
 use amount::Cap;
 use lists::Found;
-use rows::find_token;
+use rows::find_number;
 use rows::passes;
+use rows::token_numbers;
+use rows::wide;
 use rules::Token;
-use rules::TokenNo;
 
-// The first `len` tokens, nearest first.
-pub(crate) struct Family {
+// A token and its ancestors: the first `len`, nearest first.
+pub struct Family {
     pub tokens: [Token; 8],
     pub len: usize,
 }
 
-// The token and its ancestors, which are followed up to a chain of 8.
-pub(crate) fn family_of(rows: [Token; 32], k: Token) -> Family
+// The token and its ancestors, which are followed up to a chain of 8. They are searched in a list of the numbers, so each row is read once.
+pub fn family_of(rows: [Token; 32], k: Token) -> Family
     ensures { λ r. ⌜ (take (r .len) (r .tokens) ≡ family rows k) × (r .len ≤ 8) ⌝ }
 {
+    let numbers = token_numbers(rows);
     let mut tokens = [k; 8];
     let mut n: usize = 1;
-    let mut parent = k.parent.0;
+    let mut parent = wide(k.parent.0);
     while n < 8 {
-        let Found::At(i) = find_token(rows, TokenNo(parent)) else {
+        let Found::At(i) = find_number(&numbers, parent) else {
             return Family { tokens, len: n };
         };
         let x = rows[i];
         tokens[n] = x;
-        parent = x.parent.0;
+        parent = wide(x.parent.0);
         n += 1;
     }
     Family { tokens, len: n }

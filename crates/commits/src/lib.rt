@@ -9,10 +9,15 @@ mod family;
 mod placings;
 mod sizes;
 
+pub use charge::is_member;
+pub use charge::numbers_of;
 pub use commit::check_commit;
+pub use commit::check_given;
 pub use commit::commit_on;
 pub use commit::refusing;
 pub use commit::store_commit;
+pub use family::Family;
+pub use family::family_of;
 use rules::Answer;
 use rules::Entry;
 use rules::Placement;

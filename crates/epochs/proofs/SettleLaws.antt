@@ -6,22 +6,22 @@ use Prim.Native.Nat.{ℕ, _+_, _<_, _≤_, min}
 use native.Mathlib.Omega.{arith}
 use borrow.Author.Needs.{needs}
 use borrow.Author.Tests.{not-false, lt-ltb, le-ltb}
-use lib.ListN.{length, getD, set}
+use lib.ListN.{length, getD, set, length-set}
+use Rattle.lists.specs.Lists.{allOf}
 use Rattle.lists.specs.AnswerLaws.{none-given, some-given}
 use Rattle.lists.specs.LoopLaws.{AllLoop, all-start, all-step, all-failed, all-passed}
 use Rattle.lists.specs.ByteLoopLaws.{FillLoop, fill-start, fill-step-of, fill-whole, least-mapped, length-mapped}
 use Rattle.lists.specs.RowLaws.{rows-length}
 use Rattle.rules.specs.declared.Volume.{Volume}
 use Rattle.rules.specs.declared.Tables.{Tables}
-use Rattle.rules.specs.Rent.{sizeOf}
 use Rattle.rules.specs.Advance.{afterRent, settled}
 use Rattle.rows.specs.Blank.{blankVolume}
 use Rattle.rents.specs.declared.Rent.{Rent}
 use Rattle.rents.specs.declared.Rent.the-variants.{Coins, PastLimits}
-use Rattle.rents.specs.Within.{rentWithin, rawIn, entryVolume, sizesAt, volumeRent, mostRaw}
+use Rattle.rents.specs.Within.{rentWithin, rawIn, sizesAt, volumeRent, mostRaw}
 use Rattle.rents.specs.WithinLaws.{rent-exact, raw-listed}
 use Rattle.epochs.specs.declared.SettledRow.{SettledRow}
-use Rattle.epochs.specs.Within.{mostGrace, canSettle, canSettleAll, settledRow, settledRows}
+use Rattle.epochs.specs.Within.{RentParts, RowSettled, RowsSettled, mostGrace, canSettle, canSettleAll, settledRow, settledRows}
 
 module _ (t : Tables) (v : Volume) where
   pub free-stays : v .no .0 ≡ 0 → record { fits = true; row = v } ≡ settledRow t v
@@ -52,63 +52,65 @@ module _ (t : Tables) (v : Volume) where
 
 pub ruleset settles-row = (free-stays, past-limits, grace-full, rent-paid, needs)
 
--- the first i rows can be settled and are stored as they are after; ms and sizes are the entries' volumes and sizes
-pub record SettleLoop (t : Tables) (rows : List Volume) (ms sizes : List ℕ) (n i : ℕ) (out : List Volume) : Type 0 where
-  pub volumes-of : ms ≡ map entryVolume (t .entries)
-  pub sizes-of : sizes ≡ map sizeOf (t .entries)
-  pub fitting : AllLoop (canSettle t) rows n i
-  pub stored : FillLoop rows 0 (map (settled t) rows) n i out
+-- the first i rows can be settled and are stored as they are after, whatever tables have these parts
+pub record SettleLoop (rate : ℕ) (rows : List Volume) (ms sizes : List ℕ) (n i : ℕ) (out : List Volume) : Type 0 where
+  pub size : length out ≡ length rows
+  pub fitting : (t : Tables) → RentParts t rate rows ms sizes → AllLoop (canSettle t) rows n i
+  pub stored : (t : Tables) → RentParts t rate rows ms sizes → FillLoop rows 0 (map (settled t) rows) n i out
 
-module _ (t : Tables) (ms sizes : List ℕ) (n : ℕ) where
-  abbrev rows : List Volume
-  rows = t .volumes
-
-  pub settle-start : length rows ≡ n → ms ≡ map entryVolume (t .entries) → sizes ≡ map sizeOf (t .entries) → SettleLoop t rows ms sizes n 0 rows
-  settle-start e v z =
+module _ (rate : ℕ) (rows : List Volume) (ms sizes : List ℕ) (n : ℕ) where
+  pub settle-start : length rows ≡ n → SettleLoop rate rows ms sizes n 0 rows
+  settle-start e =
       record {
-        volumes-of = v;
-        sizes-of = z;
-        fitting = all-start (canSettle t) rows n e;
-        stored = fill-start rows 0 (map (settled t) rows) n (omega arith) (least-mapped (settled t) rows n e);
+        size = refl;
+        fitting = λ t p. all-start (canSettle t) rows n e;
+        stored = λ t p. fill-start rows 0 (map (settled t) rows) n (omega arith) (least-mapped (settled t) rows n e);
       }
 
-  module _ (i : ℕ) (out : List Volume) (h : SettleLoop t rows ms sizes n i out) where
+  module _ (i : ℕ) (out : List Volume) (h : SettleLoop rate rows ms sizes n i out) where
     pub settle-size : length out ≡ length rows
-    settle-size = h .stored .size
+    settle-size = h .size
 
-    pub settle-end : n ≤ i → record { fits = true; rows = out } ≡ settledRows t
+    pub settle-end : n ≤ i → RowsSettled rate rows ms sizes (record { fits = true; rows = out })
     unfolding settledRows canSettleAll
-    settle-end k =
-        let a = all-passed (canSettle t) rows n i (h .fitting) k in
-        let w = fill-whole rows (map (settled t) rows) n i out (h .stored) k (h .fitting .size) (length-mapped (settled t) rows n (h .fitting .size)) in
-        rw (← a, w)
+    settle-end k = record {
+      told = λ t p.
+          let f = h .fitting t p in
+          let a = ap (allOf (canSettle t)) (p .rows-of) ∙ sym (all-passed (canSettle t) rows n i f k) in
+          let w = fill-whole rows (map (settled t) rows) n i out (h .stored t p) k (f .size) (length-mapped (settled t) rows n (f .size)) in
+          rw (a, w ∙ ap (map (settled t)) (sym (p .rows-of)));
+    }
 
     -- x is what the code made of row i, with the raw bytes that it added up
     module _ (x : SettledRow) (raw : ℕ) (k : i < n)
-        (told : (u : Tables) → t .rate ≡ u .rate → raw ≡ rawIn (getD rows i blankVolume .no) (u .entries) → x ≡ settledRow u (getD rows i blankVolume))
+        (q : RowSettled rate raw (getD rows i blankVolume) x)
         (r : raw ≡ min (sizesAt (getD rows i blankVolume .no .0) ms sizes) mostRaw) where
-      row-is : x ≡ settledRow t (getD rows i blankVolume)
-      row-is = told t refl (r ∙ rw (h .volumes-of, h .sizes-of) (raw-listed (getD rows i blankVolume .no) (t .entries)))
+      module _ (t : Tables) (p : RentParts t rate rows ms sizes) where
+        row-is : x ≡ settledRow t (getD rows i blankVolume)
+        row-is = q .told t (sym (p .rate-of)) (r ∙ rw (p .volumes-of, p .sizes-of) (raw-listed (getD rows i blankVolume .no) (t .entries)))
 
-      fits-row : x .fits ≡ canSettle t (getD rows i blankVolume)
-      unfolding settledRow
-      fits-row = ap (λ (y : SettledRow). y .fits) row-is
+        fits-row : x .fits ≡ canSettle t (getD rows i blankVolume)
+        unfolding settledRow
+        fits-row = ap (λ (y : SettledRow). y .fits) row-is
 
-      pub settle-fails : not (x .fits) ≡ true → record { fits = false; rows = rows } ≡ settledRows t
+        made-row : not (x .fits) ≡ false → x .row ≡ settled t (getD rows i blankVolume)
+        unfolding settledRow
+        made-row f = ap (λ (y : SettledRow). y .row) row-is ∙ rw (sym fits-row ∙ not-false (x .fits) f)
+
+      pub settle-fails : not (x .fits) ≡ true → RowsSettled rate rows ms sizes (record { fits = false; rows = rows })
       unfolding settledRows canSettleAll
-      settle-fails f = let a = all-failed blankVolume (canSettle t) rows n i (x .fits) (h .fitting) k fits-row f in rw (← a)
+      settle-fails f = record {
+        told = λ t p.
+            let a = ap (allOf (canSettle t)) (p .rows-of) ∙ sym (all-failed blankVolume (canSettle t) rows n i (x .fits) (h .fitting t p) k (fits-row t p) f) in
+            rw (a, sym (p .rows-of));
+      }
 
-      made-row : not (x .fits) ≡ false → x .row ≡ settled t (getD rows i blankVolume)
-      unfolding settledRow
-      made-row f = ap (λ (y : SettledRow). y .row) row-is ∙ rw (sym fits-row ∙ not-false (x .fits) f)
-
-      pub settle-step : not (x .fits) ≡ false → SettleLoop t rows ms sizes n (i + 1) (set out i (x .row))
+      pub settle-step : not (x .fits) ≡ false → SettleLoop rate rows ms sizes n (i + 1) (set out i (x .row))
       settle-step f =
           record {
-            volumes-of = h .volumes-of;
-            sizes-of = h .sizes-of;
-            fitting = all-step blankVolume (canSettle t) rows n i (x .fits) (h .fitting) k fits-row f;
-            stored = fill-step-of (settled t) blankVolume rows rows n i out (x .row) (h .stored) k (made-row f);
+            size = length-set out i (x .row) ∙ h .size;
+            fitting = λ t p. all-step blankVolume (canSettle t) rows n i (x .fits) (h .fitting t p) k (fits-row t p) f;
+            stored = λ t p. fill-step-of (settled t) blankVolume rows rows n i out (x .row) (h .stored t p) k (made-row t p f);
           }
 
 pub ruleset settles = (settle-step, settle-fails, settle-end, settle-size, settle-start, rows-length, needs)

@@ -1,9 +1,11 @@
 // Advance.
 ghost use mathlib.Core.Path.{_≡_};
-ghost use mathlib.Core.Bool.{false};
-ghost use Rattle.rules.specs.Outcome.{refused};
-ghost use Rattle.epochs.specs.Parts.{onAdvance, onPass};
-ghost use Rattle.epochs.specs.Within.{settledAt, advanceWithin, passWithin, dueWithin};
+ghost use mathlib.Core.List.{map};
+ghost use Rattle.rules.specs.declared.Tables.{Tables};
+ghost use Rattle.rules.specs.Rent.{sizeOf};
+ghost use Rattle.rents.specs.Within.{entryVolume};
+ghost use Rattle.epochs.specs.Parts.{onAdvance, onPass, passRefused};
+ghost use Rattle.epochs.specs.Within.{AtSettled, advanceWithin, passWithin, dueWithin};
 use super::AdvanceOutcome;
 use super::PassOutcome;
 use super::Settled;
@@ -13,20 +15,22 @@ use super::collect::collect_due;
 use super::due::any_due;
 use super::leave::relays_left;
 use super::settle::settle_all;
+use rents::entry_sizes;
+use rents::entry_volumes;
+use rules::Relay;
 use rules::Tables;
+use rules::Volume;
 use rules::numbers::BAD;
 use rules::numbers::CLOCK;
 
 // A refusal: the parts are as they came, and no volume is collected.
-fn refuse(t: Tables, n: u32) -> PassOutcome
-    ensures { λ r. ⌜ (onPass t r ≡ refused t n) × (r .due ≡ false) ⌝ }
+fn refuse(clock: u64, volumes: [Volume; 8], relays: [Relay; 32], n: u32) -> PassOutcome
+    ensures { λ r. ⌜ r ≡ passRefused clock volumes relays n ⌝ }
 {
     let answer = rules::refusal(n);
-    let volumes = t.volumes;
-    let relays = t.relays;
     PassOutcome {
         answer,
-        clock: t.clock,
+        clock,
         volumes,
         relays,
         due: false,
@@ -34,39 +38,65 @@ fn refuse(t: Tables, n: u32) -> PassOutcome
 }
 
 // The volumes at the block: settled where an epoch ends, and else as they are.
-fn settled(t: Tables, block: u64) -> Settled
-    ensures { λ r. ⌜ r ≡ settledAt block t ⌝ }
+fn settled(
+    clock: u64,
+    rate: u16,
+    rows: [Volume; 8],
+    numbers: [u32; 64],
+    sizes: [u64; 64],
+    block: u64,
+) -> Settled
+    ensures { λ r. ⌜ AtSettled block clock rate rows numbers sizes r ⌝ }
 {
-    if epoch_ends(t.clock, block) < 1 {
-        let rows = t.volumes;
+    if epoch_ends(clock, block) < 1 {
         return Settled { fits: true, rows };
     }
-    settle_all(t)
+    settle_all(rate, rows, numbers, sizes)
 }
 
-// The clock goes on to the block, relays leave and rents are paid; `due` says whether volumes are collected then.
-pub fn pass_on(t: Tables, block: u64) -> PassOutcome
-    ensures { λ r. ⌜ (onPass t r ≡ passWithin block t) × (r .due ≡ dueWithin block t) ⌝ }
+// The clock goes on to the block, relays leave and rents are paid, in the parts of the tables that are read for it: of the entries these
+// are the numbers of their volumes and their sizes.
+pub fn pass_rows(
+    clock: u64,
+    rate: u16,
+    volumes: [Volume; 8],
+    relays: [Relay; 32],
+    owners: [u32; 64],
+    sizes: [u64; 64],
+    block: u64,
+) -> PassOutcome
+    ensures { λ r. ⌜ ((t : Tables) → t .clock ≡ clock → t .rate ≡ rate → t .volumes ≡ volumes → t .relays ≡ relays → owners ≡ map entryVolume (t .entries) → sizes ≡ map sizeOf (t .entries) → (onPass t r ≡ passWithin block t) × (r .due ≡ dueWithin block t)) ⌝ }
 {
-    if bad_block(t.clock, block) {
-        return refuse(t, CLOCK);
+    if bad_block(clock, block) {
+        return refuse(clock, volumes, relays, CLOCK);
     }
-    let after = settled(t, block);
+    let after = settled(clock, rate, volumes, owners, sizes, block);
     if !after.fits {
-        return refuse(t, BAD);
+        return refuse(clock, volumes, relays, BAD);
     }
-    let volumes = after.rows;
-    let before = t.relays;
-    let relays = relays_left(block, before);
+    let rows = after.rows;
+    let left = relays_left(block, relays);
     let answer = rules::success(block);
-    let due = any_due(block, volumes);
+    let due = any_due(block, rows);
     PassOutcome {
         answer,
         clock: block,
-        volumes,
-        relays,
+        volumes: rows,
+        relays: left,
         due,
     }
+}
+
+// The same in the tables; `due` says whether volumes are collected then.
+pub fn pass_on(t: Tables, block: u64) -> PassOutcome
+    ensures { λ r. ⌜ (onPass t r ≡ passWithin block t) × (r .due ≡ dueWithin block t) ⌝ }
+{
+    let volumes = t.volumes;
+    let relays = t.relays;
+    let entries = t.entries;
+    let owners = entry_volumes(entries);
+    let sizes = entry_sizes(entries);
+    pass_rows(t.clock, t.rate, volumes, relays, owners, sizes, block)
 }
 
 // The clock goes on to a block.

@@ -58,7 +58,7 @@ fn due_number(clock: u64, v: Volume) -> u32
     if is_due(clock, v) { v.no.0 } else { 0 }
 }
 
-pub(crate) fn due_numbers(clock: u64, rows: [Volume; 8]) -> [u32; 8]
+pub fn due_numbers(clock: u64, rows: [Volume; 8]) -> [u32; 8]
     ensures { λ r. ⌜ r ≡ map (dueNumber clock) rows ⌝ }
 {
     let mut gone = [0u32; 8];
@@ -72,7 +72,7 @@ pub(crate) fn due_numbers(clock: u64, rows: [Volume; 8]) -> [u32; 8]
 }
 
 // Whether a number is one of these.
-pub(crate) fn is_one_of(gone: [u32; 8], n: u32) -> bool
+pub fn is_one_of(gone: [u32; 8], n: u32) -> bool
     ensures { λ r. ⌜ r ≡ anyOf (numbered n) gone ⌝ }
 {
     let mut i: usize = 0;
@@ -86,7 +86,7 @@ pub(crate) fn is_one_of(gone: [u32; 8], n: u32) -> bool
 }
 
 // The volumes without those that are due.
-pub(crate) fn clear_due(clock: u64, rows: [Volume; 8]) -> [Volume; 8]
+pub fn clear_due(clock: u64, rows: [Volume; 8]) -> [Volume; 8]
     ensures { λ r. ⌜ r ≡ cleared (isDue clock) freshVolume rows ⌝ }
 {
     let mut left = rows;

@@ -2,6 +2,7 @@
 mod remove;
 
 pub use remove::remove_on;
+pub use remove::with_version;
 use rules::Answer;
 use rules::Entry;
 use rules::Relay;

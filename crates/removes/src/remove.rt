@@ -63,7 +63,8 @@ fn accept(
     }
 }
 
-fn with_version(v: Volume, version: u32) -> Volume
+// The volume with this version.
+pub fn with_version(v: Volume, version: u32) -> Volume
     ensures { λ r. ⌜ r ≡ withVersion v version ⌝ }
 {
     let mut next = v;

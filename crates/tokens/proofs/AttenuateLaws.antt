@@ -26,7 +26,8 @@ use Rattle.tokens.specs.Rows.{attenuateDeep, attenuateFound}
 use Rattle.tokens.specs.RowLaws.{attenuate-by-row}
 use Rattle.tokens.specs.declared.NewToken.{NewToken}
 use Rattle.tokens.specs.declared.TokensOutcome.{TokensOutcome}
-use Rattle.tokens.proofs.NewTokenLaws.{found-row, tokens-stored}
+use Rattle.tokens.specs.FoundLaws.{found-row}
+use Rattle.tokens.proofs.NewTokenLaws.{tokens-stored}
 
 -- k is the row of the parent, where it is there, and d the tokens of its chain
 module _ (t : Tables) (s : ScopeArg) (d : ℕ) (there : Bool) (k : Token) where

@@ -23,7 +23,8 @@ use Rattle.rows.specs.Blank.{blankVolume, blankToken}
 use Rattle.tokens.specs.Parts.{onTokens, storedAt, storedIn, isFound, placeOf}
 use Rattle.tokens.specs.declared.NewToken.{NewToken}
 use Rattle.tokens.specs.declared.TokensOutcome.{TokensOutcome}
-use Rattle.tokens.proofs.NewTokenLaws.{found-row, tokens-stored}
+use Rattle.tokens.specs.FoundLaws.{found-row}
+use Rattle.tokens.proofs.NewTokenLaws.{tokens-stored}
 
 -- f is what the search of the volumes said
 module _ (t : Tables) (vs : List Volume) (a : Account) (s : ScopeArg) (n : VolumeNo) (f : Found) (e : f ≡ firstAt (isVolume n) 0 vs) (v : t .volumes ≡ vs) where

@@ -29,7 +29,7 @@ use Rattle.tokens.specs.Parts.{unchanged, isFound, placeOf}
 use Rattle.rows.specs.Links.{rowIf}
 use Rattle.tokens.specs.Rows.{lookFound}
 use Rattle.tokens.specs.RowLaws.{look-by-row}
-use Rattle.tokens.proofs.NewTokenLaws.{found-row}
+use Rattle.tokens.specs.FoundLaws.{found-row}
 
 -- the entry's row e, where it was found
 module _ (t : Tables) (j : ℕ) (found : Bool) (e : Entry) (r : Answer) where

@@ -1,20 +1,21 @@
 -- A new token, of code that was handed the last number given and whether a row is free, and the table that it is stored in. Assumes nothing.
-use mathlib.Core.Path.{_≡_, refl, sym, _∙_}
+use mathlib.Core.Path.{_≡_, refl, ap, sym, _∙_}
 use mathlib.Core.Bool.{Bool, true, false, not, cond}
 use mathlib.Core.List.{List}
-use Prim.Native.Nat.{ℕ, _+_, _*_, _^_, _<_, _≤_}
-use native.Mathlib.Nat.{mul-le-mul-right}
-use native.Mathlib.Omega.{arith}
-use mir.Val.{Fits}
-use mir.Syntax.{w64}
-use borrow.Author.Tests.{le-leb, lt-leb, not-true, not-false, ltb-true}
-use lib.Dec.{leb, ltb}
-use lib.ListN.{length, getD, set}
+use Prim.Native.Nat.{ℕ, _+_, _<_, _≤_}
+use borrow.Author.Tests.{le-leb, lt-leb, not-true, not-false}
+use lib.Dec.{leb}
+use lib.ListN.{set}
+use lib.Seq.{take-all}
+use Rattle.amount.specs.declared.Cap.{Cap}
 use Rattle.lists.specs.declared.Found.{Found}
 use Rattle.lists.specs.declared.Found.the-variants.{At, Nothing}
-use Rattle.lists.specs.Lists.{firstAt, find, hit, miss}
-use Rattle.lists.specs.SearchLaws.{first-row, first-miss, first-below}
+use Rattle.lists.specs.Lists.{find, hit, miss}
+use Rattle.lists.specs.BoolLaws.{not-both}
+use Rattle.text.specs.Text.{pathLimit, isPrefix}
+use Rattle.text.specs.TextLaws.{prefix-fits}
 use Rattle.rules.specs.declared.Answer.{Answer}
+use Rattle.rules.specs.declared.Mode.{Mode}
 use Rattle.rules.specs.declared.VolumeNo.{VolumeNo}
 use Rattle.rules.specs.declared.TokenNo.{TokenNo}
 use Rattle.rules.specs.declared.Scope.{Scope}
@@ -23,10 +24,12 @@ use Rattle.rules.specs.declared.Tables.{Tables}
 use Rattle.rules.specs.Fresh.{freshToken}
 use Rattle.rules.specs.Limits.{lastNumber}
 use Rattle.rules.specs.Numbers.{SPENT, ROOM}
+use Rattle.rules.specs.Scope.{toScope}
 use Rattle.rules.specs.Tables.{freeToken}
 use Rattle.rules.specs.Outcome.{refusal, refused, success}
 use Rattle.rules.specs.TokenCalls.{tokenIn, newToken}
-use Rattle.tokens.specs.Parts.{onTokens, storedAt, storedIn, notStored, isFound, placeOf}
+use Rattle.scopes.specs.Arguments.{scopeArg}
+use Rattle.tokens.specs.Parts.{onTokens, storedAt, storedIn, notStored, HasScope, HasPrefix, isFound, placeOf}
 use Rattle.tokens.specs.declared.NewToken.{NewToken}
 use Rattle.tokens.specs.declared.TokensOutcome.{TokensOutcome}
 
@@ -37,6 +40,22 @@ none-stored a k n e f = rw (e, f)
 -- it leaves the tables as they are
 pub refused-new : (t : Tables) (i : ℕ) (r : NewToken) (n : ℕ) → r ≡ notStored n → storedAt t i r ≡ refused t n
 refused-new t i r n e = rw e
+
+-- and there is no token of which a scope or a prefix is to be told
+pub refused-scope : (s : Scope) (r : NewToken) (n : ℕ) → r ≡ notStored n → HasScope s r
+refused-scope s r n e = record { same = λ q. absurd (not-both q (rw e)) }
+
+pub refused-prefix : (b : List ℕ) (r : NewToken) (n : ℕ) → r ≡ notStored n → HasPrefix b r
+refused-prefix b r n e = record { same = λ q. absurd (not-both q (rw e)) }
+
+pub new-scope : (a : Answer) (v : VolumeNo) (p : TokenNo) (s : Scope) (n : ℕ)
+    → HasScope s (record { answer = a; stored = true; token = record { no = record { 0 = n }; volume = v; parent = p; scope = s; used = 0 } })
+new-scope a v p s n = record { same = λ q. refl }
+
+-- a prefix that is one is kept whole
+pub new-prefix : (b : List ℕ) (r : NewToken) (a : Scope) (mode : Mode) (cap : Cap) (start until : ℕ) → isPrefix b ≡ true → a ≡ toScope (scopeArg b mode cap start until) → HasScope a r
+    → HasPrefix b r
+new-prefix b r a mode cap start until e f h = record { same = λ q. rw (take-all pathLimit b (prefix-fits b e)) (ap (λ (x : Scope). x .prefix) (h .same q ∙ f)) }
 
 module _ (t : Tables) (i last : ℕ) (v : VolumeNo) (p : TokenNo) (s : Scope) (f : t .«last_token» ≡ last) where
   pub token-spent : (r : NewToken) → lastNumber ≤ last → r ≡ notStored SPENT → storedAt t i r ≡ newToken t v p s
@@ -78,25 +97,6 @@ module _ (f : Found) where
 
   pub place-some : (i : ℕ) → f ≡ At i → i ≡ placeOf f
   place-some i e = sym (rw e)
-
-module _ {A : Type 0} (p : A → Bool) (l : List A) where
-  pub found-row : (d : A) (f : Found) → f ≡ firstAt p 0 l → find p l ≡ cond (isFound f) (hit (placeOf f) (getD l (placeOf f) d)) miss
-  found-row d (At i) e = first-row p l i (sym e) d
-  found-row d Nothing e = first-miss p l (sym e)
-
-  -- the place lies in a table of n rows
-  place-below : (n : ℕ) → 0 < n → length l ≡ n → (f : Found) → f ≡ firstAt p 0 l → placeOf f < n
-  place-below n h k (At i) e = omega (arith, k, first-below p l 0 i (sym e))
-  place-below n h k Nothing e = h
-
-  module _ (f : Found) (i n : ℕ) (e : f ≡ firstAt p 0 l) (q : i ≡ placeOf f) (k : length l ≡ n) where
-    pub place-in : ltb 0 n ≡ true → i < n
-    place-in h = rw q (place-below n (ltb-true 0 n h) k f e)
-
-    pub place-fits : (m : ℕ) → ltb 0 n ≡ true → ltb (n * m) (2 ^ 64) ≡ true → Fits w64 (i * m)
-    place-fits m h w =
-        let j : i < n = place-in h in
-        record { fits = omega (arith, mul-le-mul-right m j, ltb-true (n * m) (2 ^ 64) w) }
 
 -- the tokens and the last number as they were, or with the new token
 module _ (rows : List Token) (last : ℕ) (f : Found) (o : NewToken) where

@@ -9,7 +9,7 @@ ghost use Rattle.rules.specs.declared.Token.{Token};
 ghost use Rattle.rules.specs.declared.TokenNo.{TokenNo};
 ghost use Rattle.rules.specs.Tables.{freeToken, tokenOf};
 ghost use Rattle.rules.specs.TokenCalls.{attenuateRule};
-ghost use Rattle.tokens.specs.Parts.{onTokens, storedAt};
+ghost use Rattle.tokens.specs.Parts.{onTokens, storedAt, HasPrefix};
 ghost use Rattle.scopes.specs.Arguments.{scopeArg};
 ghost use Rattle.rows.specs.Links.{rowIf};
 ghost use Rattle.tokens.specs.Rows.{attenuateDeep, attenuateFound};
@@ -50,7 +50,7 @@ fn attenuate_in(
     until: u64,
 ) -> NewToken
     requires { ⌜ isPrefix (now prefix) ≡ true ⌝ }
-    ensures { λ r. ⌜ ((t : Tables) (i : ℕ) (old : Token) → t .«last_token» ≡ last → find freeToken (t .tokens) ≡ cond free (hit i old) miss → storedAt t i r ≡ attenuateDeep t (scopeArg (now (prefix .entry)) mode cap from until) deep (hit 0 k)) ⌝ }
+    ensures { λ r. ⌜ ((t : Tables) (i : ℕ) (old : Token) → t .«last_token» ≡ last → find freeToken (t .tokens) ≡ cond free (hit i old) miss → storedAt t i r ≡ attenuateDeep t (scopeArg (now (prefix .entry)) mode cap from until) deep (hit 0 k)) × HasPrefix (now (prefix .entry)) r ⌝ }
 {
     let parent = k.scope;
     if !narrows(prefix, mode, cap, from, until, parent) {
@@ -67,7 +67,7 @@ fn attenuate_in(
 
 // The same as `attenuate_on`, of the parent's row where there is one, its depth, the last token number given, and whether a row of the
 // tokens is free.
-pub(crate) fn attenuate_row(
+pub fn attenuate_row(
     there: bool,
     k: Token,
     deep: usize,
@@ -79,7 +79,7 @@ pub(crate) fn attenuate_row(
     from: u64,
     until: u64,
 ) -> NewToken
-    ensures { λ r. ⌜ ((t : Tables) (i : ℕ) (old : Token) → t .«last_token» ≡ last → find freeToken (t .tokens) ≡ cond free (hit i old) miss → storedAt t i r ≡ attenuateFound t (scopeArg (now (prefix .entry)) mode cap from until) deep (rowIf there k)) ⌝ }
+    ensures { λ r. ⌜ ((t : Tables) (i : ℕ) (old : Token) → t .«last_token» ≡ last → find freeToken (t .tokens) ≡ cond free (hit i old) miss → storedAt t i r ≡ attenuateFound t (scopeArg (now (prefix .entry)) mode cap from until) deep (rowIf there k)) × HasPrefix (now (prefix .entry)) r ⌝ }
 {
     if !scope_fits(prefix, cap, from, until) {
         return not_stored(BAD);

@@ -8,7 +8,7 @@ ghost use Rattle.rules.specs.declared.Tables.{Tables};
 ghost use Rattle.rules.specs.declared.Token.{Token};
 ghost use Rattle.rules.specs.Tables.{freeToken};
 ghost use Rattle.rules.specs.TokenCalls.{grantRule, grantIn};
-ghost use Rattle.tokens.specs.Parts.{onTokens, storedAt};
+ghost use Rattle.tokens.specs.Parts.{onTokens, storedAt, HasPrefix};
 ghost use Rattle.scopes.specs.Arguments.{scopeArg};
 use super::NewToken;
 use super::TokensOutcome;
@@ -48,7 +48,7 @@ fn grant_in(
     until: u64,
 ) -> NewToken
     requires { ⌜ isPrefix (now prefix) ≡ true ⌝ }
-    ensures { λ r. ⌜ ((t : Tables) (i : ℕ) (old : Token) → t .«last_token» ≡ last → find freeToken (t .tokens) ≡ cond free (hit i old) miss → storedAt t i r ≡ grantIn t a (scopeArg (now (prefix .entry)) mode cap from until) (hit 0 v)) ⌝ }
+    ensures { λ r. ⌜ ((t : Tables) (i : ℕ) (old : Token) → t .«last_token» ≡ last → find freeToken (t .tokens) ≡ cond free (hit i old) miss → storedAt t i r ≡ grantIn t a (scopeArg (now (prefix .entry)) mode cap from until) (hit 0 v)) × HasPrefix (now (prefix .entry)) r ⌝ }
 {
     if !owned_by(v, a) {
         return not_stored(NOT_OWNER);
@@ -63,7 +63,7 @@ fn grant_in(
 }
 
 // The same as `grant_on`, of a table of volumes, the last token number given, and whether a row of the tokens is free.
-pub(crate) fn grant_row(
+pub fn grant_row(
     volumes: [Volume; 8],
     last: u32,
     free: bool,
@@ -75,7 +75,7 @@ pub(crate) fn grant_row(
     from: u64,
     until: u64,
 ) -> NewToken
-    ensures { λ r. ⌜ ((t : Tables) (i : ℕ) (old : Token) → t .volumes ≡ volumes → t .«last_token» ≡ last → find freeToken (t .tokens) ≡ cond free (hit i old) miss → storedAt t i r ≡ grantRule a n (scopeArg (now (prefix .entry)) mode cap from until) t) ⌝ }
+    ensures { λ r. ⌜ ((t : Tables) (i : ℕ) (old : Token) → t .volumes ≡ volumes → t .«last_token» ≡ last → find freeToken (t .tokens) ≡ cond free (hit i old) miss → storedAt t i r ≡ grantRule a n (scopeArg (now (prefix .entry)) mode cap from until) t) × HasPrefix (now (prefix .entry)) r ⌝ }
 {
     if !scope_fits(prefix, cap, from, until) {
         return not_stored(BAD);

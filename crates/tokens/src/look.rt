@@ -43,7 +43,7 @@ fn look_entry(found: bool, e: Entry) -> Answer
 }
 
 // From the token's row on.
-fn look_token(clock: u64, k: Token, found: bool, e: Entry, path: &[u8]) -> Answer
+pub fn look_token(clock: u64, k: Token, found: bool, e: Entry, path: &[u8]) -> Answer
     ensures { λ r. ⌜ ((t : Tables) (j : ℕ) → t .clock ≡ clock → entryOf (k .volume) (now (path .entry)) t ≡ cond found (hit j e) miss → unchanged t r ≡ lookIn t (now (path .entry)) (hit 0 k)) ⌝ }
 {
     let scope = k.scope;

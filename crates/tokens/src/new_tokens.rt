@@ -7,7 +7,7 @@ ghost use Rattle.rules.specs.declared.Tables.{Tables};
 ghost use Rattle.rules.specs.declared.Token.{Token};
 ghost use Rattle.rules.specs.Tables.{freeToken};
 ghost use Rattle.rules.specs.TokenCalls.{newToken};
-ghost use Rattle.tokens.specs.Parts.{storedAt, storedIn, notStored, isFound, placeOf};
+ghost use Rattle.tokens.specs.Parts.{storedAt, storedIn, notStored, HasScope, isFound, placeOf};
 use super::NewToken;
 use super::TokensOutcome;
 use lists::Found;
@@ -39,7 +39,7 @@ pub(crate) fn new_token(
     parent: TokenNo,
     scope: Scope,
 ) -> NewToken
-    ensures { λ r. ⌜ ((t : Tables) (i : ℕ) (old : Token) → t .«last_token» ≡ last → find freeToken (t .tokens) ≡ cond free (hit i old) miss → storedAt t i r ≡ newToken t volume parent scope) ⌝ }
+    ensures { λ r. ⌜ ((t : Tables) (i : ℕ) (old : Token) → t .«last_token» ≡ last → find freeToken (t .tokens) ≡ cond free (hit i old) miss → storedAt t i r ≡ newToken t volume parent scope) × HasScope scope r ⌝ }
 {
     if 65535 <= last {
         return not_stored(SPENT);
@@ -63,7 +63,7 @@ pub(crate) fn new_token(
 }
 
 // Whether a search found a row.
-pub(crate) fn is_found(f: Found) -> bool
+pub fn is_found(f: Found) -> bool
     ensures { λ r. ⌜ r ≡ isFound f ⌝ }
 {
     let Found::At(_) = f else {
@@ -73,7 +73,7 @@ pub(crate) fn is_found(f: Found) -> bool
 }
 
 // The index of the row that a search found: 0 where there is none.
-pub(crate) fn place_of(f: Found) -> usize
+pub fn place_of(f: Found) -> usize
     ensures { λ r. ⌜ r ≡ placeOf f ⌝ }
 {
     let Found::At(i) = f else {

@@ -94,7 +94,7 @@ fn none_dropped(n: u32) -> Dropped
 
 // The same as `revoke_on`, of a table of volumes, the token's row where there is one, and the lists of the tokens' numbers and of their
 // parents' numbers.
-pub(crate) fn revoke_row(
+pub fn revoke_row(
     volumes: [Volume; 8],
     there: bool,
     k: Token,

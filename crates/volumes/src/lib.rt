@@ -13,6 +13,7 @@ pub use deposit::deposit_on;
 use rules::Answer;
 use rules::Token;
 use rules::Volume;
+pub use status::with_status;
 pub use undelete::undelete_on;
 
 // What create, deposit and undelete leave: the volume table, the last volume number given, and the coins of all deposits

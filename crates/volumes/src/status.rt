@@ -5,7 +5,7 @@ use rules::Status;
 use rules::Volume;
 
 // The status, the grace count and the block of the delete are new, the rest is as it was.
-pub(crate) fn with_status(v: Volume, status: Status, grace: u8, deleted: u64) -> Volume
+pub fn with_status(v: Volume, status: Status, grace: u8, deleted: u64) -> Volume
     ensures { λ r. ⌜ r ≡ withStatus v status grace deleted ⌝ }
 {
     let no = v.no;

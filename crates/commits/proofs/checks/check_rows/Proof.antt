@@ -21,5 +21,5 @@ check-rows-spec =
     (λ c. search (no-rows, checks, volume-none))  -- NO_VOLUME
     (λ c κs. search needs)
     (λ c. search (no-rows, checks, volume-at, token-none))  -- NO_TOKEN
-    (λ c κs. (search ready-told, search in-table, search kept-told))
+    (λ c κs. (search ready-told, search in-table, search kept-told, search needs))
     (λ c. (search (checks, volume-at, token-at), search rows-found, search in-table)))

@@ -16,7 +16,6 @@ rows-check-spec =
     (λ c κs. search needs)
     (λ c κs. search needs)
     (λ c κs. search needs)
-    (λ c κs. search needs)
     (λ c. (search fault-next, search placed-none))
     (λ c κs. search needs)
     (λ c κs. search needs)

@@ -1,5 +1,5 @@
--- `commit::check_commit` meets its contract: an idle slot, the limits, then the checks and the plan. Assumes nothing.
-use Rattle.commits.proofs.CheckLaws.{in-idle, in-limits, in-refused, in-passed}
+-- `commit::check_commit` meets its contract: what is read of the tables, then the checks by it. Assumes nothing.
+use Rattle.commits.proofs.CheckLaws.{given-judged}
 use borrow.Author.Needs.{needs}
 use Rattle.commits.proofs.commit.check_commit.Statement.{statement}
 use Rattle.commits.proofs.commit.check_commit.Tie as tie
@@ -10,11 +10,7 @@ check-commit-spec =
     (tie.spec
     (λ c κs. search needs)
     (λ c κs. search needs)
-    (λ c. search in-idle)  -- SESSION
     (λ c κs. search needs)
     (λ c κs. search needs)
-    (λ c. search in-limits)  -- BAD
     (λ c κs. search needs)
-    (λ c κs. search needs)
-    (λ c. search in-refused)
-    (λ c. search in-passed))
+    (λ c. search given-judged))

@@ -1,5 +1,6 @@
--- `advance::pass_on` meets its contract: a bad block, volumes that cannot be settled, or volumes that were. Assumes nothing.
-use Rattle.epochs.proofs.AdvanceLaws.{passes}
+-- `advance::pass_on` meets its contract: the parts are those of the tables. Assumes nothing.
+use borrow.Author.Needs.{needs}
+use Rattle.epochs.proofs.AdvanceLaws.{whole-outcome, whole-due}
 use Rattle.epochs.proofs.advance.pass_on.Statement.{statement}
 use Rattle.epochs.proofs.advance.pass_on.Tie as tie
 
@@ -7,13 +8,7 @@ pub pass-on-spec : {M : Type 1} → statement M
 pass-on-spec =
     tie.close
     (tie.spec
-    (λ c κs. search passes)
-    (λ c κs. search passes)
-    (λ c. search passes)  -- CLOCK
-    (λ c κs. search passes)
-    (λ c κs. search passes)
-    (λ c. search passes)  -- BAD
-    (λ c κs. search passes)
-    (λ c κs. search passes)
-    (λ c κs. search passes)
-    (λ c. search passes))
+    (λ c κs. search needs)
+    (λ c κs. search needs)
+    (λ c κs. search needs)
+    (λ c. search (whole-outcome, whole-due)))

@@ -1,5 +1,4 @@
 -- `advance::refuse` meets its contract. Assumes nothing.
-use mathlib.Core.Path.{refl}
 use borrow.Author.Needs.{needs}
 use Rattle.epochs.proofs.advance.refuse.Statement.{statement}
 use Rattle.epochs.proofs.advance.refuse.Tie as tie
@@ -9,4 +8,4 @@ refuse-spec =
     tie.close
     (tie.spec
     (λ c κs. search needs)
-    (λ c. (cc, refl)))
+    (λ c. cc))

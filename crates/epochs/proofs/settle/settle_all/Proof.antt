@@ -8,10 +8,8 @@ pub settle-all-spec : {M : Type 1} → statement M
 settle-all-spec =
     tie.close
     (tie.spec
-    (λ t rows numbers sizes out₀ i₀ out i. SettleLoop t rows numbers sizes 8 i out)
-    (λ t rows numbers sizes out₀ i₀ out i. 8 - i)
-    (λ c κs. search settles)
-    (λ c κs. search settles)
+    (λ rate rows numbers sizes out₀ i₀ out i. SettleLoop rate rows numbers sizes 8 i out)
+    (λ rate rows numbers sizes out₀ i₀ out i. 8 - i)
     (λ c. search settles)
     (λ c. search settles)
     (λ c. search settles)

@@ -2,7 +2,7 @@
 use Rattle.rules.specs.Scope.{scopeFits}
 use Rattle.tokens.specs.Rows.{attenuateFound}
 use Rattle.lists.specs.AnswerLaws.{checks}
-use Rattle.tokens.proofs.NewTokenLaws.{refused-new}
+use Rattle.tokens.proofs.NewTokenLaws.{refused-new, refused-prefix}
 use Rattle.tokens.proofs.AttenuateLaws.{attenuate-none, attenuate-at}
 use Rattle.tokens.proofs.ScopeLaws.{fits-prefix}
 use borrow.Author.Needs.{needs}
@@ -16,8 +16,8 @@ attenuate-row-spec =
     (tie.spec
     (λ c κs. search needs)
     (λ c κs. search needs)
-    (λ c t i old e f. search (checks, refused-new))  -- BAD
+    (λ c. (λ t i old e f. search (checks, refused-new), search refused-prefix))  -- BAD
     (λ c κs. search needs)
-    (λ c t i old e f. search (checks, attenuate-none, refused-new))  -- NO_TOKEN
+    (λ c. (λ t i old e f. search (checks, attenuate-none, refused-new), search refused-prefix))  -- NO_TOKEN
     (λ c κs. search fits-prefix)
-    (λ c t i old e f. search (checks, attenuate-at)))  -- by the parent
+    (λ c. (λ t i old e f. search (checks, attenuate-at), search needs)))  -- by the parent

@@ -3,7 +3,7 @@ use Rattle.rules.specs.Scope.{scopeFits}
 use Rattle.rules.specs.TokenCalls.{grantRule}
 use Rattle.rules.specs.Tables.{volumeOf}
 use Rattle.lists.specs.AnswerLaws.{checks, in-table}
-use Rattle.tokens.proofs.NewTokenLaws.{refused-new}
+use Rattle.tokens.proofs.NewTokenLaws.{refused-new, refused-prefix}
 use Rattle.tokens.proofs.GrantLaws.{grant-none, grant-at}
 use Rattle.tokens.proofs.ScopeLaws.{fits-prefix}
 use borrow.Author.Needs.{needs}
@@ -17,13 +17,13 @@ grant-row-spec =
     (tie.spec
     (λ c κs. search needs)
     (λ c κs. search needs)
-    (λ c t i old v e f. search (checks, refused-new))  -- BAD
+    (λ c. (λ t i old v e f. search (checks, refused-new), search refused-prefix))  -- BAD
     (λ c κs. search needs)
     (λ c. search needs)
     (λ c. search needs)
     (λ c κs. search needs)
-    (λ c t i old v e f. search (checks, grant-none, refused-new))  -- NO_VOLUME
+    (λ c. (λ t i old v e f. search (checks, grant-none, refused-new), search refused-prefix))  -- NO_VOLUME
     (λ c. search in-table)
     (λ c. search in-table)
     (λ c κs. search fits-prefix)
-    (λ c t i old v e f. search (checks, grant-at)))  -- by the volume
+    (λ c. (λ t i old v e f. search (checks, grant-at), search needs)))  -- by the volume

@@ -1,7 +1,7 @@
 -- `look::look_on` meets its contract: the row of its token, where there is one. Assumes nothing.
 use Rattle.lists.specs.AnswerLaws.{in-table}
 use Rattle.tokens.proofs.LookLaws.{look-told}
-use Rattle.tokens.proofs.NewTokenLaws.{place-in, place-fits}
+use Rattle.tokens.specs.FoundLaws.{place-in, place-fits}
 use borrow.Author.Needs.{needs}
 use Rattle.tokens.proofs.look.look_on.Statement.{statement}
 use Rattle.tokens.proofs.look.look_on.Tie as tie

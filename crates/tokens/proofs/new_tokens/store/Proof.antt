@@ -1,6 +1,7 @@
 -- `new_tokens::store` meets its contract: the rows as they are, or with the new one. Assumes nothing.
 use Rattle.lists.specs.AnswerLaws.{in-table}
-use Rattle.tokens.proofs.NewTokenLaws.{place-in, place-fits, store-none, store-row}
+use Rattle.tokens.specs.FoundLaws.{place-in, place-fits}
+use Rattle.tokens.proofs.NewTokenLaws.{store-none, store-row}
 use borrow.Author.Needs.{needs}
 use Rattle.tokens.proofs.new_tokens.store.Statement.{statement}
 use Rattle.tokens.proofs.new_tokens.store.Tie as tie
