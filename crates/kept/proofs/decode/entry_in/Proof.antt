@@ -1,0 +1,12 @@
+-- `entry_in` meets its contract. Assumes nothing.
+use borrow.Author.Needs.{needs}
+use Rattle.kept.proofs.DecodeLaws.{row-there}
+use Rattle.kept.proofs.decode.entry_in.Statement.{statement}
+use Rattle.kept.proofs.decode.entry_in.Tie as tie
+
+pub entry-in-spec : {M : Type 1} → statement M
+entry-in-spec =
+    tie.close
+    (tie.spec
+    (λ c κs. search needs)
+    (λ c. search row-there))

@@ -1,0 +1,3 @@
+pub mod Elsewhere
+pub mod ElsewhereLaws
+pub mod Parts

@@ -1,0 +1,3 @@
+pub mod KeptLimits
+pub mod Early
+pub mod KeptStored

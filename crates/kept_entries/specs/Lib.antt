@@ -1,0 +1,2 @@
+pub mod KeptEntries
+pub mod KeptEntryLaws

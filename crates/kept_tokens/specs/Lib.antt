@@ -1,0 +1,3 @@
+pub mod KeptTokens
+pub mod KeptTokenLaws
+pub mod Calls
