@@ -1,2 +1,3 @@
 pub mod CarryLaws
 pub mod ItemAnswers
+pub mod PlaceLaws

@@ -1,5 +1,5 @@
 pub mod Groups
 pub mod Parts
-pub mod CommitLaws
 pub mod NextLaws
 pub mod ItemLaws
+pub mod Places

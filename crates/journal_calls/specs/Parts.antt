@@ -1,20 +1,11 @@
 -- What the work of a record gives, by the rule of its call. Assumes nothing.
 use mathlib.Core.Path.{_≡_}
-use mathlib.Core.Bool.{cond}
 use mathlib.Core.List.{List}
 use Prim.Native.Nat.{ℕ, _<_}
-use lib.Dec.{eqb}
 use Rattle.rules.specs.declared.Relay.{Relay}
-use Rattle.rules.specs.declared.Session.{Session}
 use Rattle.rules.specs.declared.Tables.{Tables}
 use Rattle.rules.specs.declared.TablesOutcome.{TablesOutcome}
-use Rattle.rules.specs.declared.SlotOutcome.{SlotOutcome}
-use Rattle.rules.specs.Outcome.{slotRefused}
 use Rattle.rules.specs.Calls.{Ask, askRule}
-use Rattle.first_checks.specs.Early.{earlyNumber}
-use Rattle.commits.specs.declared.Verdict.{Verdict}
-use Rattle.commits.specs.Within.{commitWithin}
-use Rattle.commits.specs.Verdicts.{Judged}
 use Rattle.relays.specs.declared.RelayChange.{RelayChange}
 use Rattle.relays.specs.Rows.{onRow, registerRow, heartbeatRow}
 use Rattle.journal.specs.declared.Record.{Record}
@@ -38,16 +29,3 @@ pub record RelayDone (clock : ℕ) (rows : List Relay) (last : ℕ) (w : RelayCa
   pub same : o ≡ relayRow clock rows last w r
   pub told : (t : Tables) → t .clock ≡ clock → t .relays ≡ rows → t .«last_relay» ≡ last → onRow t o ≡ askRule (relayAsk w r) t
   pub below : o .at < 32
-
--- by the number of its first checks, a commit is refused, or done within its limits
-abbrev pub earlyOr : Tables → Session → ℕ → SlotOutcome
-earlyOr t s n = cond (eqb n 0) (commitWithin t s) (slotRefused t s n)
-
--- a commit whose first checks are asked before its limits: on tables past their limits it may be refused by those checks, where the work
--- of a commit answers 1
-unfoldable pub commitEarly : Tables → Session → SlotOutcome
-commitEarly t s = earlyOr t s (earlyNumber (t .clock) (t .volumes) (t .tokens) s)
-
--- x is the verdict on it
-pub record CommitJudged (t : Tables) (s : Session) (x : Verdict) : Type 0 where
-  pub judged : Judged t s (commitEarly t s) x

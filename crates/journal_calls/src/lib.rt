@@ -1,20 +1,15 @@
-// The calls of a journal's records: items.rt tells what stands at a place of a journal, and carry.rt carries a record's call out, but for an advance
-// and a call on no slot, which the replay does itself.
+// The calls of a journal's records: items.rt tells what stands at a place of a journal, places.rt where a record's text does, and carry.rt carries the
+// calls on relays and volumes out. The crate replay_calls has the others.
 mod carry;
 mod items;
+mod places;
 
-pub use carry::commit_call;
-pub use carry::delete_call;
-pub use carry::look_call;
 pub use carry::relay_call;
-pub use carry::remove_call;
-pub use carry::slot_call;
-pub use carry::store_call;
-pub use carry::token_call;
 pub use carry::volume_call;
 pub use items::body_at;
 pub use items::item_at;
 use journal::Record;
+pub use places::text_place;
 
 // The calls by the part of the desk that they change.
 pub enum RelayCall {
@@ -62,4 +57,10 @@ pub struct Item {
     pub group: Group,
     pub fields: Record,
     pub after: usize,
+}
+
+// So many bytes of the journal from a place on.
+pub struct TextPlace {
+    pub at: usize,
+    pub len: usize,
 }

@@ -11,8 +11,6 @@ use mir.Syntax.{w64}
 use borrow.Author.Tests.{lt-leb, ltb-true}
 use lib.Dec.{ltb}
 use lib.ListN.{getD, set}
-use lib.Seq.{set-getD}
-use Rattle.lists.specs.RowLaws.{same-row}
 use Rattle.lists.specs.TestLaws.{all-at}
 use Rattle.rules.specs.declared.Answer.{Answer}
 use Rattle.rules.specs.declared.Session.{Session}
@@ -24,7 +22,7 @@ use Rattle.rules.specs.declared.Outcome.{Outcome}
 use Rattle.rules.specs.Limits.{slotRows}
 use Rattle.rules.specs.Numbers.{BAD}
 use Rattle.rules.specs.Fresh.{freshSession}
-use Rattle.rules.specs.Outcome.{refusal, onTables, slotRefused}
+use Rattle.rules.specs.Outcome.{refusal, onTables}
 use Rattle.rules.specs.Commit.{commitRule}
 use Rattle.rules.specs.Sound.{soundTables, soundSession}
 use Rattle.rules.specs.Laws.SoundParts.{of-parts, tables-sound, slots-sound}
@@ -38,11 +36,7 @@ use Rattle.epochs.specs.Parts.{collected}
 use Rattle.epochs.specs.Within.{advanceWithin, passWithin, dueWithin}
 use Rattle.epochs.specs.PassLaws.{advance-parts}
 use Rattle.epochs.specs.WithinLaws.{advance-sound}
-use Rattle.commits.specs.declared.CommitOutcome.{CommitOutcome}
-use Rattle.commits.specs.declared.Verdict.{Verdict}
 use Rattle.commits.specs.Parts.{onCommit}
-use Rattle.commits.specs.Stored.{StoredBy}
-use Rattle.commits.specs.Verdicts.{Judged}
 use Rattle.commits.specs.Within.{commitWithin}
 use Rattle.commits.specs.WithinLaws.{commit-sound}
 use Rattle.journal.specs.declared.Record.{Record}
@@ -58,8 +52,32 @@ use Rattle.journal_calls.specs.declared.Group.the-variants as group
 use Rattle.journal_calls.specs.declared.Item.{Item}
 use Rattle.journal_calls.specs.Groups.{groupOf, relayAsk, volumeAsk, tokenAsk, lookAsk, deleteAsk, removeAsk, slotWork, callIn, isRecord, StandsAt}
 use Rattle.journal_calls.specs.ItemLaws.{call-in-group, slot-there, no-slot-refused, item-named}
-use Rattle.journal_calls.specs.Parts.{Asked, RelayDone, CommitJudged}
-use Rattle.journal_calls.specs.CommitLaws.{early-rule}
+use Rattle.journal_calls.specs.Parts.{Asked, RelayDone}
+use Rattle.rules.specs.declared.Relay.{Relay}
+use Rattle.epochs.specs.declared.PassOutcome.{PassOutcome}
+use Rattle.epochs.specs.Parts.{onPass}
+use Rattle.volumes.specs.declared.VolumesOutcome.{VolumesOutcome}
+use Rattle.volumes.specs.Parts.{onVolumes}
+use Rattle.tokens.specs.Parts.{unchanged}
+use Rattle.kept.specs.declared.KeptSession.{KeptSession}
+use Rattle.kept.specs.Kept.{sessionIn, slotsIn}
+use Rattle.kept_tokens.specs.declared.KeptTokens.{KeptTokens}
+use Rattle.kept_tokens.specs.Calls.{onKeptTokens}
+use Rattle.kept_sessions.specs.declared.KeptOutcome.{KeptOutcome}
+use Rattle.kept_sessions.specs.Parts.{onKeptSession}
+use Rattle.kept_sessions.specs.PartLaws.{map-set}
+use Rattle.kept_calls.specs.declared.KeptDelete.{KeptDelete}
+use Rattle.kept_calls.specs.Parts.{onKeptDelete}
+use Rattle.kept_removes.specs.declared.KeptRemove.{KeptRemove}
+use Rattle.kept_removes.specs.Parts.{onKeptRemove}
+use Rattle.kept_epochs.specs.declared.KeptCollect.{KeptCollect}
+use Rattle.kept_epochs.specs.Parts.{onKeptCollect}
+use Rattle.kept_commits.specs.declared.KeptCommit.{KeptCommit}
+use Rattle.kept_commits.specs.Early.{commitEarly}
+use Rattle.kept_commits.specs.KeptStored.{asCommit}
+use Rattle.replay_calls.specs.declared.Held.{Held}
+use Rattle.replay_calls.specs.Held.{heldTables, VolumesDone, TokensDone, LookDone, DeleteDone, RemoveDone, PassDone, CollectDone, slotAt, SlotDone, CommitDone}
+use Rattle.replay_calls.specs.EarlyLaws.{early-rule}
 use Rattle.transcripts.specs.Parts.{deskOf}
 use Rattle.transcripts.proofs.ReplayLaws.{ReplayLoop, Answered, Carried}
 
@@ -139,6 +157,9 @@ module _ (v : Version) (j : List ℕ) (p : ℕ) (y : Item) (ey : StandsAt v j p 
   commit-below e = slot-there (r .kind) (r .slot) (rw (← named (rw e), e))
 
   -- and its place in memory
+  pub slot-fits : (w : SlotCall) (m : ℕ) → ltb (4 * m) (2 ^ 64) ≡ true → g ≡ group.Slot w → Fits w64 (r .slot * m)
+  slot-fits k m w e = record { fits = omega (arith, mul-le-mul-right m (slot-below k e), ltb-true (4 * m) (2 ^ 64) w) }
+
   pub commit-fits : (m : ℕ) → ltb (4 * m) (2 ^ 64) ≡ true → g ≡ group.Commit → Fits w64 (r .slot * m)
   commit-fits m w e = record { fits = omega (arith, mul-le-mul-right m (commit-below e), ltb-true (4 * m) (2 ^ 64) w) }
 
@@ -187,123 +208,114 @@ module _ (v : Version) (j : List ℕ) (p : ℕ) (y : Item) (ey : StandsAt v j p 
       pub relays-kept : o .changed ≡ false → (t′ : Tables) (slots′ : List Session) → t′ ≡ t → slots′ ≡ slots → Carried g r l t slots a t′ slots′
       relays-kept ec t′ slots′ et es = rw (et, es) (rw ec at changes)
 
+    -- x is what an advance left before the collection, which follows where due is true
+    module _ (i : DeskInvariant (deskOf t slots)) (x : TablesOutcome) (due : Bool) (f : x ≡ passWithin (r .amount) t) (fd : due ≡ dueWithin (r .amount) t)
+        (e : g ≡ group.Advance) (ea : a ≡ x .answer) where
+      in-parts : advanceWithin (r .amount) t ≡ collected due (r .amount) x
+      in-parts = advance-parts t (r .amount) ∙ rw (f, fd)
+
+      advances : Carried g r l t slots a (collected due (r .amount) x .tables) slots
+      advances =
+          by-ask (rw e) (collected due (r .amount) x) (Ask.advance (r .amount)) (rw e) (sym in-parts ∙ advance-is (deskOf t slots) i (r .amount))
+          (ea ∙ sym (same-answer (r .amount) due x))
+
+  -- ---- the tables and the slots as they are held
+  module _ (l : List ℕ) (t : Tables) (h : Held) (relays : List Relay) (slots : List KeptSession) (a : Answer) where
+    abbrev now : Tables
+    now = heldTables j t h relays
+
+    abbrev sessions : List Session
+    sessions = slotsIn j slots
+
     -- x is what the call on the tables gave
-    module _ (x : TablesOutcome) where
-      pub volumes-carried : (w : VolumeCall) → Asked x (volumeAsk w r l) t → g ≡ group.Volumes w → a ≡ x .answer → (t′ : Tables) (slots′ : List Session) → t′ ≡ x .tables → slots′ ≡ slots
-          → Carried g r l t slots a t′ slots′
-      volumes-carried w f e ea t′ slots′ et es = rw (et, es) (by-ask (rw e) x (volumeAsk w r l) (rw e) (f .same) ea)
+    module _ (x : TablesOutcome) (q : Ask) (f : Asked x q now) (ea : a ≡ x .answer) where
+      asked : isRecord g ≡ true → callIn g r l ≡ ask q → Carried g r l now sessions a (x .tables) sessions
+      asked i e = by-ask l now sessions a i x q e (f .same) ea
 
-      pub volumes-said : (w : VolumeCall) → Asked x (volumeAsk w r l) t → g ≡ group.Volumes w → a ≡ x .answer → Answered g r l t slots a
-      volumes-said w f e ea = said (x .tables) slots (by-ask (rw e) x (volumeAsk w r l) (rw e) (f .same) ea)
+      asked-said : isRecord g ≡ true → callIn g r l ≡ ask q → Answered g r l now sessions a
+      asked-said i e = said l now sessions a (x .tables) sessions (asked i e)
 
-      pub tokens-carried : (w : TokenCall) → Asked x (tokenAsk w r l) t → g ≡ group.Tokens w → a ≡ x .answer → (t′ : Tables) (slots′ : List Session) → t′ ≡ x .tables → slots′ ≡ slots
-          → Carried g r l t slots a t′ slots′
-      tokens-carried w f e ea t′ slots′ et es = rw (et, es) (by-ask (rw e) x (tokenAsk w r l) (rw e) (f .same) ea)
+    module _ (w : VolumeCall) (o : VolumesOutcome) (f : VolumesDone j t w r l o) (e : g ≡ group.Volumes w) (ea : a ≡ o .answer) where
+      pub volumes-said : Answered g r l now sessions a
+      volumes-said = asked-said (onVolumes now o) (volumeAsk w r l) (f .told h relays) ea (rw e) (rw e)
 
-      pub tokens-said : (w : TokenCall) → Asked x (tokenAsk w r l) t → g ≡ group.Tokens w → a ≡ x .answer → Answered g r l t slots a
-      tokens-said w f e ea = said (x .tables) slots (by-ask (rw e) x (tokenAsk w r l) (rw e) (f .same) ea)
+      pub volumes-carried : (t′ : Tables) (slots′ : List Session) → t′ ≡ onVolumes now o .tables → slots′ ≡ sessions → Carried g r l now sessions a t′ slots′
+      volumes-carried t′ slots′ et es = rw (et, es) (asked (onVolumes now o) (volumeAsk w r l) (f .told h relays) ea (rw e) (rw e))
 
-      pub look-carried : Asked x (lookAsk r l) t → g ≡ group.Look → a ≡ x .answer → (t′ : Tables) (slots′ : List Session) → t′ ≡ x .tables → slots′ ≡ slots
-          → Carried g r l t slots a t′ slots′
-      look-carried f e ea t′ slots′ et es = rw (et, es) (by-ask (rw e) x (lookAsk r l) (rw e) (f .same) ea)
+    module _ (w : TokenCall) (o : KeptTokens) (f : TokensDone j t h w r l o) (e : g ≡ group.Tokens w) (ea : a ≡ o .answer) where
+      pub tokens-said : Answered g r l now sessions a
+      tokens-said = asked-said (onKeptTokens j now o) (tokenAsk w r l) (f .told relays) ea (rw e) (rw e)
 
-      pub look-said : Asked x (lookAsk r l) t → g ≡ group.Look → a ≡ x .answer → Answered g r l t slots a
-      look-said f e ea = said (x .tables) slots (by-ask (rw e) x (lookAsk r l) (rw e) (f .same) ea)
+      pub tokens-carried : (t′ : Tables) (slots′ : List Session) → t′ ≡ onKeptTokens j now o .tables → slots′ ≡ sessions → Carried g r l now sessions a t′ slots′
+      tokens-carried t′ slots′ et es = rw (et, es) (asked (onKeptTokens j now o) (tokenAsk w r l) (f .told relays) ea (rw e) (rw e))
 
-      pub delete-carried : Asked x (deleteAsk r l) t → g ≡ group.Delete → a ≡ x .answer → (t′ : Tables) (slots′ : List Session) → t′ ≡ x .tables → slots′ ≡ slots
-          → Carried g r l t slots a t′ slots′
-      delete-carried f e ea t′ slots′ et es = rw (et, es) (by-ask (rw e) x (deleteAsk r l) (rw e) (f .same) ea)
+    module _ (f : LookDone j t h r l a) (e : g ≡ group.Look) where
+      pub look-said : Answered g r l now sessions a
+      look-said = asked-said (unchanged now a) (lookAsk r l) (f .told relays) refl (rw e) (rw e)
 
-      pub delete-said : Asked x (deleteAsk r l) t → g ≡ group.Delete → a ≡ x .answer → Answered g r l t slots a
-      delete-said f e ea = said (x .tables) slots (by-ask (rw e) x (deleteAsk r l) (rw e) (f .same) ea)
+      pub look-carried : (t′ : Tables) (slots′ : List Session) → t′ ≡ now → slots′ ≡ sessions → Carried g r l now sessions a t′ slots′
+      look-carried t′ slots′ et es = rw (et, es) (asked (unchanged now a) (lookAsk r l) (f .told relays) refl (rw e) (rw e))
 
-      pub remove-carried : Asked x (removeAsk r l) t → g ≡ group.Remove → a ≡ x .answer → (t′ : Tables) (slots′ : List Session) → t′ ≡ x .tables → slots′ ≡ slots
-          → Carried g r l t slots a t′ slots′
-      remove-carried f e ea t′ slots′ et es = rw (et, es) (by-ask (rw e) x (removeAsk r l) (rw e) (f .same) ea)
+    module _ (o : KeptDelete) (f : DeleteDone j t h r l o) (e : g ≡ group.Delete) (ea : a ≡ o .answer) where
+      pub delete-said : Answered g r l now sessions a
+      delete-said = asked-said (onKeptDelete j now o) (deleteAsk r l) (f .told relays) ea (rw e) (rw e)
 
-      pub remove-said : Asked x (removeAsk r l) t → g ≡ group.Remove → a ≡ x .answer → Answered g r l t slots a
-      remove-said f e ea = said (x .tables) slots (by-ask (rw e) x (removeAsk r l) (rw e) (f .same) ea)
+      pub delete-carried : (t′ : Tables) (slots′ : List Session) → t′ ≡ onKeptDelete j now o .tables → slots′ ≡ sessions → Carried g r l now sessions a t′ slots′
+      delete-carried t′ slots′ et es = rw (et, es) (asked (onKeptDelete j now o) (deleteAsk r l) (f .told relays) ea (rw e) (rw e))
 
-      -- x is what an advance left before the collection, which follows where due is true
-      module _ (i : DeskInvariant (deskOf t slots)) (due : Bool) (f : x ≡ passWithin (r .amount) t) (fd : due ≡ dueWithin (r .amount) t) (e : g ≡ group.Advance)
-          (ea : a ≡ x .answer) where
-        in-parts : advanceWithin (r .amount) t ≡ collected due (r .amount) x
-        in-parts = advance-parts t (r .amount) ∙ rw (f, fd)
+    module _ (o : KeptRemove) (f : RemoveDone j t h relays r l o) (e : g ≡ group.Remove) (ea : a ≡ o .answer) where
+      pub remove-said : Answered g r l now sessions a
+      remove-said = asked-said (onKeptRemove j now o) (removeAsk r l) (f .told) ea (rw e) (rw e)
 
-        advances : Carried g r l t slots a (collected due (r .amount) x .tables) slots
-        advances =
-            by-ask (rw e) (collected due (r .amount) x) (Ask.advance (r .amount)) (rw e) (sym in-parts ∙ advance-is (deskOf t slots) i (r .amount))
-            (ea ∙ sym (same-answer (r .amount) due x))
+      pub remove-carried : (t′ : Tables) (slots′ : List Session) → t′ ≡ onKeptRemove j now o .tables → slots′ ≡ sessions → Carried g r l now sessions a t′ slots′
+      remove-carried t′ slots′ et es = rw (et, es) (asked (onKeptRemove j now o) (removeAsk r l) (f .told) ea (rw e) (rw e))
 
-        pub advance-carried : due ≡ false → (t′ : Tables) (slots′ : List Session) → t′ ≡ x .tables → slots′ ≡ slots → Carried g r l t slots a t′ slots′
-        unfolding collected
-        advance-carried ed t′ slots′ et es = rw (et, es) (rw ed at advances)
+    -- an advance, and the collection that follows where volumes are due
+    module _ (i : DeskInvariant (deskOf now sessions)) (o : PassOutcome) (f : PassDone t h relays (r .amount) o) (e : g ≡ group.Advance) (ea : a ≡ o .answer) where
+      passed : Carried g r l now sessions a (collected (o .due) (r .amount) (onPass now o) .tables) sessions
+      passed = advances l now sessions a i (onPass now o) (o .due) (f .told j) (f .due j) e ea
 
-        pub collection-carried : due ≡ true → (t′ : Tables) (slots′ : List Session) → t′ ≡ collect (isDue (r .amount)) (x .tables) → slots′ ≡ slots
-            → Carried g r l t slots a t′ slots′
-        unfolding collected
-        collection-carried ed t′ slots′ et es = rw (et, es) (rw ed at advances)
+      pub advance-said : Answered g r l now sessions a
+      advance-said = said l now sessions a (collected (o .due) (r .amount) (onPass now o) .tables) sessions passed
 
-        pub advance-said : Answered g r l t slots a
-        advance-said = said (collected due (r .amount) x .tables) slots advances
+      pub advance-carried : o .due ≡ false → (t′ : Tables) (slots′ : List Session) → t′ ≡ onPass now o .tables → slots′ ≡ sessions
+          → Carried g r l now sessions a t′ slots′
+      unfolding collected
+      advance-carried ed t′ slots′ et es = rw (et, es) (rw ed at passed)
 
-    -- x is what the call on the session of the slot gave; d would stand for one past the slots
-    module _ (i : DeskInvariant (deskOf t slots)) (d : Session) (x : SlotOutcome) (ea : a ≡ x .answer) where
-      its-session : r .slot < 4 → getD slots (r .slot) d ≡ getD slots (r .slot) freshSession
-      its-session h = same-row slots (r .slot) d freshSession (rw (i .slots) h)
+      -- c is what the collection left of the tables after the advance
+      pub collection-carried : o .due ≡ true → (t₁ : Tables) (relays₁ : List Relay) (c : KeptCollect) → CollectDone t₁ h relays₁ (r .amount) c
+          → heldTables j t₁ h relays₁ ≡ onPass now o .tables → (t′ : Tables) (slots′ : List Session) → t′ ≡ onKeptCollect j (heldTables j t₁ h relays₁) c → slots′ ≡ sessions
+          → Carried g r l now sessions a t′ slots′
+      unfolding collected
+      collection-carried ed t₁ relays₁ c k e₁ t′ slots′ et es =
+          let left : t′ ≡ collect (isDue (r .amount)) (onPass now o .tables) = et ∙ k .told j ∙ rw e₁ in
+          rw (left, es) (rw ed at passed)
 
-      module _ (w : SlotCall) (f : x ≡ workRule (slotWork w r l) t (getD slots (r .slot) d)) (e : g ≡ group.Slot w) where
-        works : Carried g r l t slots a (x .tables) (set slots (r .slot) (x .session))
-        works = by-work (rw e) x (slotWork w r l) (rw e) (slot-below w e) (f ∙ ap (workRule (slotWork w r l) t) (its-session (slot-below w e))) ea
+    -- a call on a slot, but for commit
+    module _ (w : SlotCall) (o : KeptOutcome) (f : SlotDone j t h slots w r l o) (e : g ≡ group.Slot w) (ea : a ≡ o .answer) where
+      works : Carried g r l now sessions a now (set sessions (r .slot) (sessionIn j (o .session)))
+      works = by-work l now sessions a (rw e) (onKeptSession j now o) (slotWork w r l) (rw e) (slot-below w e) (f .told relays) ea
 
-        pub slot-carried : (t′ : Tables) (slots′ : List Session) → t′ ≡ x .tables → slots′ ≡ set slots (r .slot) (x .session)
-            → Carried g r l t slots a t′ slots′
-        slot-carried t′ slots′ et es′ = rw (et, es′) works
+      pub slot-said : Answered g r l now sessions a
+      slot-said = said l now sessions a now (set sessions (r .slot) (sessionIn j (o .session))) works
 
-        pub slot-said : Answered g r l t slots a
-        slot-said = said (x .tables) (set slots (r .slot) (x .session)) works
+      pub slot-carried : (t′ : Tables) (slots′ : List KeptSession) → t′ ≡ now → slots′ ≡ set slots (r .slot) (o .session)
+          → Carried g r l now sessions a t′ (slotsIn j slots′)
+      slot-carried t′ slots′ et es = rw (et, es, map-set (sessionIn j) slots (r .slot) (o .session)) works
 
-    -- a commit; d would stand for a session past the slots
-    module _ (out₀ : List ℕ) (start n at : ℕ) (out : List ℕ) (h : ReplayLoop v j out₀ start t slots n p at out) (d : Session) (e : g ≡ group.Commit) where
-      abbrev session : Session
-      session = getD slots (r .slot) d
-
-      slot-session : session ≡ getD slots (r .slot) freshSession
-      slot-session = same-row slots (r .slot) d freshSession (rw (h .held .slots) (commit-below e))
-
-      rule-there : commitWithin t session ≡ commitRule t session
+    -- a commit
+    module _ (i : DeskInvariant (deskOf now sessions)) (o : KeptCommit) (f : CommitDone j t h slots relays r o) (e : g ≡ group.Commit) (ea : a ≡ o .answer) where
+      by-rule : commitEarly now (slotAt j slots r) ≡ workRule commits now (slotAt j slots r)
       unfolding workRule
-      rule-there = rw slot-session (commit-is (deskOf t slots) (h .held) (r .slot) (commit-below e))
+      by-rule = early-rule now (slotAt j slots r) (commit-is (deskOf now sessions) i (r .slot) (commit-below e))
 
-      commit-same : commitRule t session ≡ workRule commits t (getD slots (r .slot) freshSession)
-      unfolding workRule
-      commit-same = ap (commitRule t) slot-session
+      committed : Carried g r l now sessions a (onCommit now (asCommit j o) .tables) (set sessions (r .slot) (sessionIn j (o .session)))
+      committed = by-work l now sessions a (rw e) (onCommit now (asCommit j o)) commits (rw e) (commit-below e) (f .told ∙ by-rule) ea
 
-      -- x is what its checks gave
-      module _ (x : Verdict) (f : CommitJudged t session x) where
-        verdict : Judged t session (commitRule t session) x
-        verdict = rw (early-rule t session rule-there) at (f .judged)
+      pub commit-said : Answered g r l now sessions a
+      commit-said = said l now sessions a (onCommit now (asCommit j o) .tables) (set sessions (r .slot) (sessionIn j (o .session))) committed
 
-        module _ (z : x .number ≡ 0 → ⊥) (ea : a ≡ refusal (x .number)) where
-          stopped-on : Carried g r l t slots a t slots
-          stopped-on =
-              rw (set-getD slots (r .slot) d) at
-              (by-work (rw e) (slotRefused t session (x .number)) commits (rw e) (commit-below e) (sym (verdict .refused z) ∙ commit-same) ea)
-
-          pub stopped-said : Answered g r l t slots a
-          stopped-said = said t slots stopped-on
-
-          pub stopped-carried : (t′ : Tables) (slots′ : List Session) → t′ ≡ t → slots′ ≡ slots → Carried g r l t slots a t′ slots′
-          stopped-carried t′ slots′ et es = rw (et, es) stopped-on
-
-        -- and o what its storing left
-        module _ (z : x .number ≡ 0) (o : CommitOutcome) (b : StoredBy t session (x .plan) o) (ea : a ≡ o .answer) where
-          stored-on : Carried g r l t slots a (onCommit t o .tables) (set slots (r .slot) (o .session))
-          stored-on = by-work (rw e) (onCommit t o) commits (rw e) (commit-below e) (verdict .stored z o b ∙ commit-same) ea
-
-          pub commit-said : Answered g r l t slots a
-          commit-said = said (onCommit t o .tables) (set slots (r .slot) (o .session)) stored-on
-
-          pub commit-carried : (t′ : Tables) (slots′ : List Session) → t′ ≡ onCommit t o .tables → slots′ ≡ set slots (r .slot) (o .session)
-              → Carried g r l t slots a t′ slots′
-          commit-carried t′ slots′ et es′ = rw (et, es′) stored-on
+      pub commit-carried : (t′ : Tables) (slots′ : List KeptSession) → t′ ≡ onCommit now (asCommit j o) .tables → slots′ ≡ set slots (r .slot) (o .session)
+          → Carried g r l now sessions a t′ (slotsIn j slots′)
+      commit-carried t′ slots′ et es = rw (et, es, map-set (sessionIn j) slots (r .slot) (o .session)) committed

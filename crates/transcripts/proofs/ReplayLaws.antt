@@ -15,7 +15,17 @@ use Rattle.rules.specs.declared.Session.{Session}
 use Rattle.rules.specs.declared.Tables.{Tables}
 use Rattle.rules.specs.declared.Desk.{Desk}
 use Rattle.rules.specs.declared.Outcome.{Outcome}
-use Rattle.rules.specs.Fresh.{freshSession, freshTables, freshDesk}
+use Rattle.rules.specs.Fresh.{freshTables, freshDesk}
+use Rattle.kept.specs.declared.KeptSession.{KeptSession}
+use Rattle.kept.specs.Kept.{slotsIn, freshKeptSession}
+use Rattle.rules.specs.declared.Relay.{Relay}
+use Rattle.rules.specs.declared.Token.{Token}
+use Rattle.rules.specs.declared.Entry.{Entry}
+use Rattle.rules.specs.Tables.{withRelays, withEntries, withTokens}
+use Rattle.kept_tokens.specs.KeptTokens.{tokensIn}
+use Rattle.kept_entries.specs.KeptEntries.{entriesIn}
+use Rattle.replay_calls.specs.declared.Held.{Held}
+use Rattle.replay_calls.specs.Held.{heldTables, freshHeld}
 use Rattle.rules.specs.Calls.{Call, rule, step, run}
 use Rattle.rules.specs.Laws.StaysSound.{DeskInvariant}
 use Rattle.rules.specs.Laws.Reached.{call-keeps}
@@ -69,18 +79,19 @@ pub record Carried (g : Group) (r : Record) (b : List ℕ) (t : Tables) (slots :
   pub same : record { answer = a; desk = deskOf t′ slots′ } ≡ rule (callAt v01 r b) (deskOf t slots)
 
 module _ (v : Version) (l out₀ : List ℕ) (start : ℕ) where
-  pub replay-start : (t : Tables) (s : Session) → t ≡ freshTables programRate → s ≡ freshSession → areBytes l ≡ true → length l < 65536
-      → start + length (wholeOf v l) ≤ length out₀ → ReplayLoop v l out₀ start t (replicate 4 s) 0 0 start out₀
-  replay-start t s et es b h k =
-      rw (et, es)
+  pub replay-start : (t : Tables) (h : Held) (s : KeptSession) → t ≡ freshTables programRate → h ≡ freshHeld → s ≡ freshKeptSession → areBytes l ≡ true
+      → length l < 65536 → start + length (wholeOf v l) ≤ length out₀
+      → ReplayLoop v l out₀ start (heldTables l t h (t .relays)) (slotsIn l (replicate 4 s)) 0 0 start out₀
+  replay-start t h s et eh es b k m =
+      rw (et, eh, es)
       (record {
         bytes = b;
-        short = h;
+        short = k;
         place = omega arith;
         count = omega arith;
         held = fresh-holds programRate;
         size = refl;
-        room = k;
+        room = m;
         ends = refl;
         left = refl;
         desk = refl;
@@ -236,6 +247,16 @@ module _ (v : Version) (l out₀ : List ℕ) (start : ℕ) where
       pub plain-step : (a : Answer) (t′ : Tables) (slots′ : List Session) → Carried (x .group) (x .fields) bytes-of t slots a t′ slots′ → (at′ : ℕ) (out′ : List ℕ)
           → Wrote at (recordLine (n + 1) a) out at′ out′ → ReplayLoop v l out₀ start t′ slots′ (n + 1) (x .after) at′ out′
       plain-step a t′ slots′ c at′ out′ f = replay-step bytes-of (record { same = refl }) a t′ slots′ c at′ out′ f
+
+-- ---- the desk that is held
+
+pub tables-made : (l : List ℕ) (t : Tables) (h : Held) (relays : List Relay) (tokens : List Token) (entries : List Entry) → tokens ≡ tokensIn l (h .tokens)
+    → entries ≡ entriesIn l (h .entries) → withRelays (withEntries (withTokens t tokens) entries) relays ≡ heldTables l t h relays
+tables-made l t h relays tokens entries e f = rw (e, f)
+
+pub desk-made : (len : ℕ) (t t₀ : Tables) (slots slots₀ : List Session) → t ≡ t₀ → slots ≡ slots₀
+    → _≡_ {A = Replayed} (record { number = 0; len = len; desk = deskOf t slots }) (record { number = 0; len = len; desk = deskOf t₀ slots₀ })
+desk-made len t t₀ slots slots₀ e f = rw (e, f)
 
 pub ruleset ends = (end-room, end-replays)
 
