@@ -55,8 +55,8 @@ unfoldable pub isPart : List ℕ → Bool
 unfolding sameBytes
 isPart p = not (sameBytes p [] || sameBytes p (dot ∷ []) || sameBytes p (dot ∷ dot ∷ []))
 
--- "Path: 1 to 512 bytes (W1) in 0x21..0x7E; no leading or trailing "/" (001), no empty, "." or ".." part (H)". Before a leading slash and
--- after a trailing one stands an empty part.
+-- "Path: 1 to 128 bytes in 0x21..0x7E; no leading or trailing "/" (001), no empty, "." or ".." part (H)", with W1's 512 for 128. Before a leading
+-- slash and after a trailing one stands an empty part.
 unfoldable pub isPath : List ℕ → Bool
 unfolding allOf parts isPart
 isPath s = within 1 pathLimit (length s) && allOf isPathByte s && allOf isPart (parts s)
@@ -65,12 +65,12 @@ isPath s = within 1 pathLimit (length s) && allOf isPathByte s && allOf isPart (
 abbrev pub butLast : List ℕ → List ℕ
 butLast s = take (length s - 1) s
 
--- "a path followed by "/", at most 512 bytes (W1) in all"
+-- "a path followed by "/", at most 128 bytes in all", with W1's 512
 unfoldable pub isPathAndSlash : List ℕ → Bool
 unfolding isPath
 isPathAndSlash s = leb (length s) pathLimit && eqb (getD s (length s - 1) 0) slash && isPath (butLast s)
 
--- "Prefix: empty, or a path followed by "/", at most 512 bytes (W1) in all"
+-- "Prefix: empty, or a path followed by "/", at most 128 bytes in all", with W1's 512
 unfoldable pub isPrefix : List ℕ → Bool
 unfolding isPathAndSlash
 isPrefix [] = true
