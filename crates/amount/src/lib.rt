@@ -2,6 +2,8 @@
 //
 // The definitions that the contracts cite are in specs/: Amount.antt says which cap a text names,
 // Writing.antt which text a cap has. No public function has a `requires`.
+#![tactic(auto)]
+
 mod decimal;
 mod digits;
 mod reader;
@@ -13,7 +15,7 @@ pub use reader::read_amount;
 pub use writer::write_amount;
 
 // A cap is either no limit or a count of bytes, so a count of zero can never stand for no limit.
-#[derive(Drop)]
+#[derive(Clone, Copy)]
 pub enum Cap {
     Unlimited,
     Bytes(u64),
@@ -32,21 +34,21 @@ pub const NOT_WHOLE: u32 = 23;
 pub const TOO_LARGE: u32 = 24;
 
 // What reading a text gives: its cap, or the number of the refusal.
-#[derive(Drop)]
+#[derive(Clone, Copy)]
 pub enum ReadAmount {
     Read(Cap),
     Refused(u32),
 }
 
 // What writing a cap gives: the length of its text, or the number of the refusal.
-#[derive(Drop)]
+#[derive(Clone, Copy)]
 pub enum Written {
     Length(usize),
     Refused(u32),
 }
 
 // The four units of a typed amount.
-#[derive(Drop)]
+#[derive(Clone, Copy)]
 pub enum ByteUnit {
     B,
     KiB,
@@ -55,21 +57,21 @@ pub enum ByteUnit {
 }
 
 // The unit that a text names, if it names one.
-#[derive(Drop)]
+#[derive(Clone, Copy)]
 pub enum UnitFound {
     Is(ByteUnit),
     Nothing,
 }
 
 // A run of digits that is long enough and not too long: how many there are, and their number.
-#[derive(Drop)]
+#[derive(Clone, Copy)]
 pub enum DigitRun {
     Digits(usize, u64),
     Outside,
 }
 
 // A text of up to 9 bytes: the first `len` of `bytes`.
-#[derive(Drop)]
+#[derive(Clone, Copy)]
 pub struct Spelling {
     pub bytes: [u8; 9],
     pub len: usize,

@@ -2,6 +2,8 @@
 // then a few that no line can hold; the caps that are written stand in the tables below. It prints
 // a line for each case: the text or the buffer in brackets, with a '?' for each byte that is not
 // printable, then the answer (0 or the refusal's number) and the value.
+#![tactic(auto)]
+
 use amount::{Cap, ReadAmount, Written};
 
 // The counts that are written, and the bytes that are lent for each.

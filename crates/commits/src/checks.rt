@@ -17,7 +17,7 @@ use rules::{Relay, Session, Token, Volume};
 use surveys::can_check;
 
 // What the checks of a running session's commit give: the number of the refusal, or 0; where it is 0, the row of the volume, and the placements.
-#[derive(Drop)]
+#[derive(Clone, Copy)]
 pub(crate) struct Checked {
     pub number: u32,
     pub row: usize,
@@ -32,7 +32,7 @@ fn failed(number: u32, relays: [Relay; 32]) -> Checked
 }
 
 // The number of the refusal, or 0; where it is 0, the placements.
-#[derive(Drop)]
+#[derive(Clone, Copy)]
 pub(crate) struct Placing {
     pub number: u32,
     pub p: Places,

@@ -96,7 +96,7 @@ pub fn store_commit(t: Tables, s: Session, plan: Plan) -> CommitOutcome
 }
 
 // The row of a token, with its place, or that it has none.
-#[derive(Drop)]
+#[derive(Clone, Copy)]
 pub(crate) struct TokenRow {
     pub there: bool,
     pub at: usize,

@@ -9,7 +9,7 @@ use rows::{find_number, passes, token_numbers, wide};
 use rules::Token;
 
 // A token and its ancestors: the first `len`, nearest first.
-#[derive(Drop)]
+#[derive(Clone, Copy)]
 pub struct Family {
     pub tokens: [Token; 8],
     pub len: usize,

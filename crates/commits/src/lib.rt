@@ -1,6 +1,8 @@
 // The work of commit: a session's staged puts are stored. It reads the tables and the session, and gives back what it changes.
 // Its two halves stand for themselves: the checks change no table, and the storing is for a commit that they do not refuse.
 // Every public function answers for every input: past the limits that their sums rest on, the checks and the storing answer 1.
+#![tactic(auto)]
+
 mod answers;
 mod charge;
 mod checks;
@@ -15,7 +17,7 @@ pub use family::{Family, family_of};
 use rules::{Answer, Entry, Placement, Relay, Session, Token, Volume};
 
 // What a commit leaves: the volume, entry, token and relay tables, and the session.
-#[derive(Drop)]
+#[derive(Clone, Copy)]
 pub struct CommitOutcome {
     pub answer: Answer,
     pub volumes: [Volume; 8],
@@ -27,7 +29,7 @@ pub struct CommitOutcome {
 
 // How a commit is stored: the rows of its volume and its token, a placement for each put, the relay table after them, and a mark for each
 // entry that the puts replace.
-#[derive(Drop)]
+#[derive(Clone, Copy)]
 pub struct Plan {
     pub volume: usize,
     pub token: usize,
@@ -37,7 +39,7 @@ pub struct Plan {
 }
 
 // What the checks of a commit give: the number of the refusal, or 0 with the plan to store it by.
-#[derive(Drop)]
+#[derive(Clone, Copy)]
 pub struct Verdict {
     pub number: u32,
     pub plan: Plan,

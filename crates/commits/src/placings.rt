@@ -10,7 +10,7 @@ use placing::place_put;
 use rules::{Placement, Put, Relay, fresh_placement};
 
 // A placement for each put, and the relay table after them; or that some put finds too few relays.
-#[derive(Drop)]
+#[derive(Clone, Copy)]
 pub(crate) struct Places {
     pub placed: bool,
     pub places: [Placement; 8],

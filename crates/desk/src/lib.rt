@@ -1,6 +1,8 @@
 // The calls on the desk. Each takes the desk by value and gives it back with the answer. Each tests the desk first, then its
 // input, in the order of document 01; a refusal gives the desk back as it came. The work of each call stands in the crate of
 // its subject and gives back the part that it changes; the crate `parts` puts that back into the desk.
+#![tactic(auto)]
+
 mod sound_work;
 
 ghost use Rattle.std.specs.Prelude.{◌≡◌};

@@ -1,6 +1,8 @@
 // The desk as bytes, written into a lent buffer.
 //
 // specs/Layout.antt has the layout, and specs/Writing.antt what the writer answers and leaves.
+#![tactic(auto)]
+
 ghost use Rattle.std.specs.Prelude.{◌≡◌};
 ghost use Rattle.desk_bytes.specs.Layout.{desk_length};
 ghost use Rattle.desk_bytes.specs.Writing.{answer_of, buffer_of};

@@ -6,6 +6,8 @@
 // desk. A desk is a value, so that one desk may be called several times: the source says which.
 //
 // Every line of the file stdout was worked out from document 01, as W1 of 02 amends it, by hand before the program was first run.
+#![tactic(auto)]
+
 mod block_cases;
 mod calls;
 mod commit_cases;

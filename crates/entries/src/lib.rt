@@ -1,5 +1,7 @@
 // The entry table: entries that go out of it, with the room that they give back, and what a commit stores. Each function reads what it needs
 // and gives back what it changes. Every public function answers for every input.
+#![tactic(auto)]
+
 mod keys;
 mod marks;
 mod paths;

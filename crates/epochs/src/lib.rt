@@ -1,6 +1,8 @@
 // The work of advance: the clock goes on, relays leave, rents are paid at an epoch end, and volumes are collected. It reads the
 // tables and gives back the parts that it changes, with its answer: specs/Parts.antt says what that makes of the whole. `advance_on` does
 // all of it, and `pass_on` and `collect_on` are its two parts; `pass_rows` is `pass_on` without the whole tables. It answers for every input.
+#![tactic(auto)]
+
 mod advance;
 mod clock;
 mod collect;
@@ -15,7 +17,7 @@ pub use due::{clear_due, due_numbers, is_one_of};
 use rules::{Answer, Entry, Relay, Token, Volume};
 
 // What an advance leaves.
-#[derive(Drop)]
+#[derive(Clone, Copy)]
 pub struct AdvanceOutcome {
     pub answer: Answer,
     pub clock: u64,
@@ -26,7 +28,7 @@ pub struct AdvanceOutcome {
 }
 
 // What an advance leaves before volumes are collected: the clock, the volumes and the relays, and whether some volume is due.
-#[derive(Drop)]
+#[derive(Clone, Copy)]
 pub struct PassOutcome {
     pub answer: Answer,
     pub clock: u64,
@@ -36,7 +38,7 @@ pub struct PassOutcome {
 }
 
 // What a collection leaves.
-#[derive(Drop)]
+#[derive(Clone, Copy)]
 pub struct CollectOutcome {
     pub volumes: [Volume; 8],
     pub entries: [Entry; 64],
@@ -45,14 +47,14 @@ pub struct CollectOutcome {
 }
 
 // A volume after an epoch end, or as it was where the machine's numbers cannot settle it.
-#[derive(Drop)]
+#[derive(Clone, Copy)]
 pub(crate) struct SettledRow {
     pub fits: bool,
     pub row: Volume,
 }
 
 // The volumes after an epoch end, or as they were where the machine's numbers cannot settle one of them.
-#[derive(Drop)]
+#[derive(Clone, Copy)]
 pub(crate) struct Settled {
     pub fits: bool,
     pub rows: [Volume; 8],

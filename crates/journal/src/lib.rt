@@ -3,6 +3,8 @@
 // A record is a kind and the kind's list of fields. One table gives the lists; the reader and the writer go by it, so no
 // kind has code of its own. The definitions are in specs/: Numbers and Fields (the parts of a record), Records (the table
 // and the calls it stands for), Places (what the reader answers), Journal (the frame), Theorems (what is proved of them).
+#![tactic(auto)]
+
 mod frame;
 mod numbers;
 mod parts;
@@ -28,21 +30,21 @@ pub const VERSION: u32 = 28;
 
 // The versions of a journal. They say which kinds of records it has, how the length of a text is written, and
 // how long a text may be.
-#[derive(Drop)]
+#[derive(Clone, Copy)]
 pub enum Version {
     V01,
     V02,
 }
 
 // What a journal's first bytes say: the version of the records after them, or the number that it stops with.
-#[derive(Drop)]
+#[derive(Clone, Copy)]
 pub enum Start {
     Records(Version),
     Fault(u32),
 }
 
 // The kinds of calls, 01 to 10 in the journal, in that order.
-#[derive(Drop)]
+#[derive(Clone, Copy)]
 pub enum Kind {
     Advance,
     Create,
@@ -64,7 +66,7 @@ pub enum Kind {
 
 // The fields of records. `No` is a volume, token or relay number, `Text` a name, path or prefix, `Amount` a block, coins, a
 // size or a capacity. `None` stands in the table after a kind's last field.
-#[derive(Drop)]
+#[derive(Clone, Copy)]
 pub enum Field {
     Account,
     No,
@@ -83,7 +85,7 @@ pub enum Field {
 
 // A record that was read. Numbers are by value; of the account, the text and the hash it says where in the record's bytes
 // they begin. A field that the kind does not have is 0, the mode Read and the cap unlimited.
-#[derive(Drop)]
+#[derive(Clone, Copy)]
 pub struct Record {
     pub kind: Kind,
     pub account: usize,
@@ -102,35 +104,35 @@ pub struct Record {
 }
 
 // What reading a record's bytes gives: the record, or a refusal's number.
-#[derive(Drop)]
+#[derive(Clone, Copy)]
 pub enum Reading {
     Fits(Record),
     Refused(u32),
 }
 
 // What a byte names as a kind.
-#[derive(Drop)]
+#[derive(Clone, Copy)]
 pub enum Named {
     Kind(Kind),
     Unknown,
 }
 
 // Reading one field: the record with it and the place after it, or a refusal.
-#[derive(Drop)]
+#[derive(Clone, Copy)]
 pub enum Step {
     Next(Record, usize),
     Refused,
 }
 
 // A number at a place of the bytes, where there are enough.
-#[derive(Drop)]
+#[derive(Clone, Copy)]
 pub enum Number {
     Value(u64),
     Cut,
 }
 
 // What stands next in a journal: nothing, a whole record with how many bytes it takes with its length, or a refusal's number.
-#[derive(Drop)]
+#[derive(Clone, Copy)]
 pub enum Next {
     End,
     Whole(Record, usize),
@@ -139,7 +141,7 @@ pub enum Next {
 
 // A record to be written: its kind's number and its fields, of which those count that the kind has. The mode is a number.
 // The text is passed beside it.
-#[derive(Drop)]
+#[derive(Clone, Copy)]
 pub struct Fields {
     pub kind: u8,
     pub account: [u8; 32],
@@ -156,14 +158,14 @@ pub struct Fields {
 }
 
 // What the writer answers: 0 and the length that it wrote, or a refusal's number and 0.
-#[derive(Drop)]
+#[derive(Clone, Copy)]
 pub struct Written {
     pub number: u32,
     pub len: usize,
 }
 
 // How many bytes a field or a record has, where the reader can give it.
-#[derive(Drop)]
+#[derive(Clone, Copy)]
 pub enum Size {
     Bytes(usize),
     Bad,

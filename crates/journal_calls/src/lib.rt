@@ -1,5 +1,7 @@
 // The calls of a journal's records: items.rt tells what stands at a place of a journal, places.rt where a record's text does, and carry.rt carries the
 // calls on relays and volumes out. The crate replay_calls has the others.
+#![tactic(auto)]
+
 mod carry;
 mod items;
 mod places;
@@ -10,27 +12,27 @@ use journal::Record;
 pub use places::text_place;
 
 // The calls by the part of the desk that they change.
-#[derive(Drop)]
+#[derive(Clone, Copy)]
 pub enum RelayCall {
     Register,
     Heartbeat,
 }
 
-#[derive(Drop)]
+#[derive(Clone, Copy)]
 pub enum VolumeCall {
     Create,
     Deposit,
     Undelete,
 }
 
-#[derive(Drop)]
+#[derive(Clone, Copy)]
 pub enum TokenCall {
     Grant,
     Attenuate,
     Revoke,
 }
 
-#[derive(Drop)]
+#[derive(Clone, Copy)]
 pub enum SlotCall {
     Open,
     Stage,
@@ -39,7 +41,7 @@ pub enum SlotCall {
 
 // What stands at a place of a journal: its end, a fault, or a record, by what carries it out. A call on a slot that is not there
 // changes nothing.
-#[derive(Drop)]
+#[derive(Clone, Copy)]
 pub enum Group {
     End,
     Stop(u32),
@@ -56,7 +58,7 @@ pub enum Group {
 }
 
 // With the record, and the place after it.
-#[derive(Drop)]
+#[derive(Clone, Copy)]
 pub struct Item {
     pub group: Group,
     pub fields: Record,
@@ -64,7 +66,7 @@ pub struct Item {
 }
 
 // So many bytes of the journal from a place on.
-#[derive(Drop)]
+#[derive(Clone, Copy)]
 pub struct TextPlace {
     pub at: usize,
     pub len: usize,

@@ -1,5 +1,7 @@
 // Records of document 01's journal, whole and damaged in every field, and what the reader, the frame and the writer answer.
 // Each line of the stored output was made from the paper, not from this program.
+#![tactic(auto)]
+
 use amount::Cap;
 use journal::{Fields, Next, Reading, Record, Start, Version};
 use rules::Mode;

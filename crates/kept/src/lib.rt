@@ -1,5 +1,7 @@
 // The rows of the desk as a replay keeps them. A text is kept as the place in the journal where its bytes stand: a row is then a few numbers, and
 // costs little to hand on. For each row there is the row of the desk that it stands for, by the journal's bytes.
+#![tactic(auto)]
+
 mod decode;
 mod fresh;
 
@@ -12,7 +14,7 @@ pub use fresh::{fresh_kept_entry, fresh_kept_put, fresh_kept_session, fresh_kept
 use rules::{Hash, Mode, Placement, TokenNo, VolumeNo};
 
 // A token, whose prefix is the `len` bytes of the journal from `at` on.
-#[derive(Drop)]
+#[derive(Clone, Copy)]
 pub struct KeptToken {
     pub no: TokenNo,
     pub volume: VolumeNo,
@@ -27,7 +29,7 @@ pub struct KeptToken {
 }
 
 // An entry, whose path stands there.
-#[derive(Drop)]
+#[derive(Clone, Copy)]
 pub struct KeptEntry {
     pub volume: VolumeNo,
     pub at: usize,
@@ -38,7 +40,7 @@ pub struct KeptEntry {
 }
 
 // A staged object, whose path stands there.
-#[derive(Drop)]
+#[derive(Clone, Copy)]
 pub struct KeptPut {
     pub at: usize,
     pub len: usize,
@@ -47,7 +49,7 @@ pub struct KeptPut {
 }
 
 // A session slot. `token` 0 marks an idle one. The staged puts are the first `count`.
-#[derive(Drop)]
+#[derive(Clone, Copy)]
 pub struct KeptSession {
     pub token: TokenNo,
     pub volume: VolumeNo,

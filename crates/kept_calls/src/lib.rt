@@ -1,5 +1,7 @@
 // The calls of a replay on tables that it keeps beside the others: delete and look, over kept tokens and kept entries. Each function says what it
 // comes to on every table with the parts that it reads. Every public function answers for every input.
+#![tactic(auto)]
+
 mod delete;
 mod look;
 
@@ -9,7 +11,7 @@ pub use look::look_kept;
 use rules::{Answer, Volume};
 
 // What delete leaves: the volume table and the kept tokens.
-#[derive(Drop)]
+#[derive(Clone, Copy)]
 pub struct KeptDelete {
     pub answer: Answer,
     pub volumes: [Volume; 8],

@@ -1,5 +1,7 @@
 // A commit over the tables as a replay keeps them: its checks, then its storing. Only the rows that it needs are read from the journal. Every public
 // function answers for every input.
+#![tactic(auto)]
+
 mod charge;
 mod family;
 mod store;
@@ -14,7 +16,7 @@ pub use verdict::kept_verdict;
 pub use within::kept_within;
 
 // What a commit leaves: the volume, entry, token and relay tables, and the session.
-#[derive(Drop)]
+#[derive(Clone, Copy)]
 pub struct KeptCommit {
     pub answer: Answer,
     pub volumes: [Volume; 8],

@@ -1,5 +1,7 @@
 // The entries of a replay as it keeps them: a path is compared in the journal itself, and no text is made. What each function answers is what
 // the rows say that the kept rows stand for.
+#![tactic(auto)]
+
 mod marks;
 mod paths;
 mod room;

@@ -8,7 +8,7 @@ use kept::{KeptEntry, KeptPut};
 use rules::VolumeNo;
 use surveys::Findings;
 
-#[derive(Drop)]
+#[derive(Clone, Copy)]
 pub(crate) struct KeptSums {
     pub within: bool,
     pub kept: u64,

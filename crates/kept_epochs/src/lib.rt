@@ -1,5 +1,7 @@
 // Volumes are collected from tables whose entries and tokens are kept as a replay keeps them: a text is a place in the journal, and none is read.
 // specs/Parts.antt says what the kept tables make of the whole.
+#![tactic(auto)]
+
 mod collect;
 
 pub use collect::collect_kept;
@@ -7,7 +9,7 @@ use kept::{KeptEntry, KeptToken};
 use rules::{Relay, Volume};
 
 // What a collection leaves.
-#[derive(Drop)]
+#[derive(Clone, Copy)]
 pub struct KeptCollect {
     pub volumes: [Volume; 8],
     pub entries: [KeptEntry; 64],

@@ -1,5 +1,7 @@
 // Remove, from entries that are kept as a replay keeps them: a path is compared in the journal itself, and no text is made. specs/Parts.antt says
 // what the kept tables make of the whole.
+#![tactic(auto)]
+
 mod remove;
 
 use kept::KeptEntry;
@@ -7,7 +9,7 @@ pub use remove::remove_kept;
 use rules::{Answer, Relay, Volume};
 
 // What a remove leaves: the volume, entry and relay tables.
-#[derive(Drop)]
+#[derive(Clone, Copy)]
 pub struct KeptRemove {
     pub answer: Answer,
     pub volumes: [Volume; 8],

@@ -1,5 +1,7 @@
 // The table of the tokens as a replay keeps it: searches of it, rows that go, and the calls on tokens. Each function says what it comes to for
 // the tokens that the rows stand for. Every public function answers for every input.
+#![tactic(auto)]
+
 mod attenuate;
 mod clear;
 mod find;
@@ -18,7 +20,7 @@ pub use row::row_in;
 use rules::{Answer, Token};
 
 // What a search of the table for a token gives: whether there is one, its place, and the token itself.
-#[derive(Drop)]
+#[derive(Clone, Copy)]
 pub struct KeptRow {
     pub there: bool,
     pub at: usize,
@@ -26,7 +28,7 @@ pub struct KeptRow {
 }
 
 // What a call on the tokens leaves: the kept table and the last number given.
-#[derive(Drop)]
+#[derive(Clone, Copy)]
 pub struct KeptTokens {
     pub answer: Answer,
     pub tokens: [KeptToken; 32],

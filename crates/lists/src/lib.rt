@@ -1,10 +1,12 @@
 // What the tables of the desk share: searches, counts and sums over the rows of any table, and comparing bytes.
 // The definitions are in specs/, over any kind of row, with their laws beside them.
+#![tactic(auto)]
+
 ghost use Rattle.std.specs.Prelude.{◌≡◌};
 ghost use Rattle.lists.specs.Bytes.{same_bytes, starts_with};
 
 // What a search in a table finds: the index of a row, or nothing.
-#[derive(Drop)]
+#[derive(Clone, Copy)]
 pub enum Found {
     At(usize),
     Nothing,

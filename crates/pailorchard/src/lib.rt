@@ -1,5 +1,7 @@
 // The functions that C and Rust programs call. Each is written into the static library under its own name; bindings/pailorchard.h
 // declares them. A byte slice is a pointer and a length. A refusal answers its number and leaves all that was lent as it was.
+#![tactic(auto)]
+
 ghost use Rattle.std.specs.Prelude.{◌≡◌, cond, length};
 ghost use Rattle.amount.specs.Amount.{amount_of, read_number};
 ghost use Rattle.amount.specs.Writing.{written_of, written_number, buffer_after};

@@ -1,4 +1,6 @@
 // The part of the desk that a call leaves, put back into the whole. Every function answers for every input.
+#![tactic(auto)]
+
 ghost use Rattle.std.specs.Prelude.{◌≡◌, get_or, set};
 ghost use Rattle.rules.specs.Fresh.{fresh_session};
 ghost use Rattle.rules.specs.Outcome.{desk_refused, on_tables};

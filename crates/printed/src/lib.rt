@@ -1,4 +1,6 @@
 // What the program prints for a journal: specs/Transcript says it. Here is how much room that takes; the crate transcripts writes it.
+#![tactic(auto)]
+
 ghost use Rattle.std.specs.Prelude.{◌≡◌};
 ghost use Rattle.printed.specs.Room.{room_for};
 

@@ -1,12 +1,14 @@
 // Replays a journal on a fresh desk and prints its transcript, and nothing else, on standard output. The journal is read from
 // standard input, or from the file that the one argument names. What is printed is what `transcripts::replay_into` writes; this
 // program reads the bytes and writes them out.
+#![tactic(auto)]
+
 ghost use Rattle.std.specs.Prelude.{◌≡◌, ◌≤◌, length};
 
 use libc::{STDERR_FILENO, STDIN_FILENO, STDOUT_FILENO};
 
 // What one read gave: so many bytes, none at the end of the input, or that it failed.
-#[derive(Drop)]
+#[derive(Clone, Copy)]
 struct Got {
     failed: bool,
     bytes: usize,

@@ -1,5 +1,7 @@
 // Journals whole, damaged and full, and what the replay writes for them. Each line of the stored output was worked out from the
 // paper.
+#![tactic(auto)]
+
 ghost use Rattle.std.specs.Prelude.{◌≡◌, length};
 
 use libc::STDOUT_FILENO;

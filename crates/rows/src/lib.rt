@@ -1,5 +1,7 @@
 // Rows of the tables: finding them by number, path or name, finding a free one, and the tests on one row that the calls
 // share. Every function here answers for every input.
+#![tactic(auto)]
+
 mod any;
 mod chain;
 mod find;

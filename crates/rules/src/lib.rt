@@ -2,6 +2,8 @@
 //
 // The rules themselves are the definitions in specs/: what each call answers and what it leaves. The code that carries
 // the calls out stands in the crates above and is proved against them.
+#![tactic(auto)]
+
 mod answers;
 mod fresh_rows;
 pub mod numbers;
@@ -17,38 +19,38 @@ use text::name::Name;
 
 // Volume, token and relay numbers are three types, so that one cannot be passed where another belongs. Each counts from 1;
 // 0 marks a free row.
-#[derive(Drop)]
+#[derive(Clone, Copy)]
 pub struct VolumeNo(pub u32);
 
-#[derive(Drop)]
+#[derive(Clone, Copy)]
 pub struct TokenNo(pub u32);
 
-#[derive(Drop)]
+#[derive(Clone, Copy)]
 pub struct RelayNo(pub u32);
 
 // Who owns a volume: 32 bytes, established elsewhere.
-#[derive(Drop)]
+#[derive(Clone, Copy)]
 pub struct Account(pub [u8; 32]);
 
 // The 32 bytes that stand for an object's content.
-#[derive(Drop)]
+#[derive(Clone, Copy)]
 pub struct Hash(pub [u8; 32]);
 
 // The relay numbers that hold an object's shards, by shard index: the first `len` places.
-#[derive(Drop)]
+#[derive(Clone, Copy)]
 pub struct Placement {
     pub relays: [RelayNo; 24],
     pub len: usize,
 }
 
-#[derive(Drop)]
+#[derive(Clone, Copy)]
 pub enum Status {
     Active,
     Grace,
     Deleted,
 }
 
-#[derive(Drop)]
+#[derive(Clone, Copy)]
 pub struct Volume {
     pub no: VolumeNo,
     pub owner: Account,
@@ -68,7 +70,7 @@ pub struct Volume {
 }
 
 // An object in a volume. `volume` 0 marks a free row.
-#[derive(Drop)]
+#[derive(Clone, Copy)]
 pub struct Entry {
     pub volume: VolumeNo,
     pub path: Text,
@@ -77,7 +79,7 @@ pub struct Entry {
     pub placement: Placement,
 }
 
-#[derive(Drop)]
+#[derive(Clone, Copy)]
 pub enum Mode {
     Read,
     Write,
@@ -85,7 +87,7 @@ pub enum Mode {
 }
 
 // What a token allows. The window is the blocks from `from` to `until`, both included.
-#[derive(Drop)]
+#[derive(Clone, Copy)]
 pub struct Scope {
     pub prefix: Text,
     pub mode: Mode,
@@ -95,7 +97,7 @@ pub struct Scope {
 }
 
 // `parent` 0 is that of a root.
-#[derive(Drop)]
+#[derive(Clone, Copy)]
 pub struct Token {
     pub no: TokenNo,
     pub volume: VolumeNo,
@@ -105,7 +107,7 @@ pub struct Token {
     pub used: u64,
 }
 
-#[derive(Drop)]
+#[derive(Clone, Copy)]
 pub struct Relay {
     pub no: RelayNo,
     // bytes
@@ -118,7 +120,7 @@ pub struct Relay {
 }
 
 // A staged object.
-#[derive(Drop)]
+#[derive(Clone, Copy)]
 pub struct Put {
     pub path: Text,
     pub size: u64,
@@ -126,7 +128,7 @@ pub struct Put {
 }
 
 // A session slot. `token` 0 marks an idle one. The staged puts are the first `count`.
-#[derive(Drop)]
+#[derive(Clone, Copy)]
 pub struct Session {
     pub token: TokenNo,
     pub volume: VolumeNo,
@@ -137,7 +139,7 @@ pub struct Session {
 }
 
 // All of the desk but the session slots: what every call but the four on sessions works on.
-#[derive(Drop)]
+#[derive(Clone, Copy)]
 pub struct Tables {
     // blocks
     pub clock: u64,
@@ -153,7 +155,7 @@ pub struct Tables {
     pub deposits: u64,
 }
 
-#[derive(Drop)]
+#[derive(Clone, Copy)]
 pub struct Desk {
     pub tables: Tables,
     pub sessions: [Session; 4],
@@ -161,7 +163,7 @@ pub struct Desk {
 
 // What a call answers: 0 and a value, or a refusal's number and value 0. `hash` is what an accepted look hands back, and
 // zeros in every other answer.
-#[derive(Drop)]
+#[derive(Clone, Copy)]
 pub struct Answer {
     pub number: u32,
     pub value: u64,
@@ -169,19 +171,19 @@ pub struct Answer {
 }
 
 // A call's answer with what it leaves: the whole desk, the tables, or the tables and the one slot it works on.
-#[derive(Drop)]
+#[derive(Clone, Copy)]
 pub struct Outcome {
     pub answer: Answer,
     pub desk: Desk,
 }
 
-#[derive(Drop)]
+#[derive(Clone, Copy)]
 pub struct TablesOutcome {
     pub answer: Answer,
     pub tables: Tables,
 }
 
-#[derive(Drop)]
+#[derive(Clone, Copy)]
 pub struct SlotOutcome {
     pub answer: Answer,
     pub tables: Tables,

@@ -63,12 +63,12 @@ module _
   replay_none s b x i d so la re id = (d, record { runs = done; sound = so; same = refl; has = id s ∙ sym i; rest = λ t n. id t })
 
   replay_later : (s : ℕ) (b b₁ : Base) (l : List Event) (x : Cell) → Later b b₁ → Replays s b l x → Replays s b₁ l x
-  replay_later s b b₁ l x la h d so la₁ = h d so (L.Later-trans b b₁ (base d) la la₁)
+  replay_later s b b₁ l x la h d so la₁ = h d so (L.later_trans b b₁ (base d) la la₁)
 
   replay_more : (k : Kind) (s : ℕ) (c : Call) (d : Desk) (l : List Event) → Prepares k → Accepts k s c d
       → Replays s (base d) l (cell d s) → Replays s (base (next c d)) (l ++ ((c, answer c d) ∷ [])) (cell (next c d) s)
   replay_more k s c d l p a h f so la re id =
-      let la₁ : Later (base d) (base f) = L.Later-trans (base d) (base (next c d)) (base f) (L.goes_on c d a.sound) la in
+      let la₁ : Later (base d) (base f) = L.later_trans (base d) (base (next c d)) (base f) (L.goes_on c d a.sound) la in
       let (e, F) = h f so la₁ (L.ready_before p a (base f) re) id in
       let q = L.again p a e F.sound (rw F.same la₁) F.has (rw F.same re) in
       let a₁ : Accepts k s c e = record { is = a.is; sound = F.sound; ok = rw q.0 a.ok } in (
@@ -111,8 +111,8 @@ module _
             sound = L.stays_sound c d T.sound;
             sound' = L.stays_sound c d' T.sound';
             same = q.1;
-            quiet = λ t. L.plain_Cells c d' r T.sound' t ∙ T.quiet t;
-            replay = λ t. rw (L.plain_Cells c d r T.sound t) (replay_later t (base d) (base (next c d)) (l t) (cell d t) (L.goes_on c d T.sound) (T.replay t));
+            quiet = λ t. L.plain_cells c d' r T.sound' t ∙ T.quiet t;
+            replay = λ t. rw (L.plain_cells c d r T.sound t) (replay_later t (base d) (base (next c d)) (l t) (cell d t) (L.goes_on c d T.sound) (T.replay t));
           },
         )
 
@@ -141,7 +141,7 @@ module _
     one_commit : (s : ℕ) → Accepts commits s c d
         → (d'' : Desk) × Runs d' (l s ++ ((c, answer c d) ∷ [])) d'' × Agree (λ t. choose (ℕ_discrete t s) [] (l t)) (next c d) d''
     one_commit s a =
-        let (e, F) = T.replay s d' T.sound' (rw T.same (L.Later-refl (base d))) (rw T.same (L.commits_ready a)) T.quiet in
+        let (e, F) = T.replay s d' T.sound' (rw T.same (L.later_refl (base d))) (rw T.same (L.commits_ready a)) T.quiet in
         let q = L.commits_same a e F.sound (F.same ∙ T.same) F.has in
         let a₁ : Accepts commits s c e = record { is = a.is; sound = F.sound; ok = rw q.0 a.ok } in (
           next c e,

@@ -3,6 +3,8 @@
 // of the tables, since these would be copied: open the clock, the volumes and the row of its token, if there is one, stage
 // the row of its session's token, if there is one, abandon nothing.
 // Every public function answers for every input.
+#![tactic(auto)]
+
 mod abandon;
 mod answers;
 mod open;
@@ -14,7 +16,7 @@ use rules::{Answer, Session};
 pub use stage::stage_on;
 
 // What a call on a slot leaves: the slot's session.
-#[derive(Drop)]
+#[derive(Clone, Copy)]
 pub struct SessionOutcome {
     pub answer: Answer,
     pub session: Session,

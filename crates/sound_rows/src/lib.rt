@@ -1,6 +1,8 @@
 // The test of the desk, table by table: volumes, entries, tokens and sessions. The relays, whose counts are sums over the other tables, are in the
 // crate soundness. A row's test takes only what it reads of the tables: its contract says that the result is the definition's for any tables
 // that hold these values.
+#![tactic(auto)]
+
 mod entry_test;
 mod numbers;
 mod path_keys;

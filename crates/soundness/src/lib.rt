@@ -1,5 +1,7 @@
 // The test of the desk (document 01, "Answered 1 before all else"), proved equal to the definition `sound` of the rules.
 // The crate sound_rows has the tests of the other tables; here are the relays, whose counts are sums over them, and the whole.
+#![tactic(auto)]
+
 ghost use Rattle.std.specs.Prelude.{◌≡◌};
 ghost use Rattle.rules.specs.Sound.{sound};
 

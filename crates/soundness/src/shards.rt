@@ -11,7 +11,7 @@ use rules::Tables;
 use sound_rows::{volume_ks, volume_numbers};
 
 // The bytes and the shards that a relay has.
-#[derive(Drop)]
+#[derive(Clone, Copy)]
 pub(crate) struct Load {
     pub bytes: u64,
     pub shards: u32,

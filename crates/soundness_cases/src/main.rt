@@ -1,5 +1,7 @@
 // A full desk that is sound, and the same desk with one part of the test broken at a time: what each call answers, and
 // whether it gives the desk back as it went in.
+#![tactic(auto)]
+
 mod calls;
 mod cases;
 mod compare;

@@ -10,7 +10,7 @@ use entries::{any_mark, count_new, mark_replaced};
 use rows::put_count;
 use rules::{Entry, Put, VolumeNo};
 
-#[derive(Drop)]
+#[derive(Clone, Copy)]
 pub(crate) struct Sums {
     pub within: bool,
     pub kept: u64,

@@ -1,4 +1,6 @@
 // Texts of bounded length: paths and prefixes, and, in `name`, names.
+#![tactic(auto)]
+
 ghost use Rattle.std.specs.Prelude.{◌≡◌, [], min, length, take};
 ghost use Rattle.lists.specs.Bytes.{same_bytes};
 ghost use Rattle.text.specs.Text.{path_limit, text_bytes, to_text, covers};
@@ -15,7 +17,7 @@ pub const NAME_LIMIT: usize = 64;
 
 // A path or a prefix: the first `len` bytes. The bytes after them are not read, and are
 // zeros in every text that this crate makes.
-#[derive(Drop)]
+#[derive(Clone, Copy)]
 pub struct Text {
     pub bytes: [u8; PATH_LIMIT],
     pub len: usize,

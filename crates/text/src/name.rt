@@ -8,7 +8,7 @@ use crate::NAME_LIMIT;
 use crate::bytes::within;
 
 // A volume's name: the first `len` bytes. The bytes after them are not read, and are zeros in every name that this crate makes.
-#[derive(Drop)]
+#[derive(Clone, Copy)]
 pub struct Name {
     pub bytes: [u8; NAME_LIMIT],
     pub len: usize,

@@ -14,7 +14,7 @@ const SLASH: u8 = b'/';
 const DOT: u8 = b'.';
 
 // What a part is, as far as the rule of parts asks.
-#[derive(Drop)]
+#[derive(Clone, Copy)]
 pub(crate) enum Kind {
     Empty,
     Dot,
@@ -24,7 +24,7 @@ pub(crate) enum Kind {
 
 // What is known of the parts of the bytes from some place on: what the first part is, and whether
 // the parts after it pass.
-#[derive(Drop)]
+#[derive(Clone, Copy)]
 pub(crate) struct Scan {
     pub first: Kind,
     pub rest: bool,

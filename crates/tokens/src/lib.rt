@@ -3,6 +3,8 @@
 // function of this crate, `grant_row` and the like, that takes only what it reads of the tables, since these would be copied, and in
 // place of a token's number its row, or that there is none. These serve a table that is kept in another form too: they say which row is
 // new, with its prefix, or which rows go. Every public function answers for every input.
+#![tactic(auto)]
+
 mod answers;
 mod attenuate;
 mod grant;
@@ -19,7 +21,7 @@ pub use revoke::{revoke_on, revoke_row};
 use rules::{Answer, Token};
 
 // What a call on the tokens leaves: the token table and the last number given.
-#[derive(Drop)]
+#[derive(Clone, Copy)]
 pub struct TokensOutcome {
     pub answer: Answer,
     pub tokens: [Token; 32],
@@ -27,7 +29,7 @@ pub struct TokensOutcome {
 }
 
 // What a call that makes a token gives: its answer, and the new row where one is stored.
-#[derive(Drop)]
+#[derive(Clone, Copy)]
 pub struct NewToken {
     pub answer: Answer,
     pub stored: bool,
@@ -35,7 +37,7 @@ pub struct NewToken {
 }
 
 // What revoke gives: its answer, and the rows that go, one bit for each, the first row's lowest.
-#[derive(Drop)]
+#[derive(Clone, Copy)]
 pub struct Dropped {
     pub answer: Answer,
     pub set: u32,

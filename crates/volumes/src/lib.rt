@@ -1,5 +1,7 @@
 // The work of create, deposit, delete and undelete. Each reads the tables and gives back the part that it changes, with its
 // answer: specs/Parts.antt says what that makes of the whole. Every public function answers for every input.
+#![tactic(auto)]
+
 mod answers;
 mod create;
 mod delete;
@@ -16,7 +18,7 @@ pub use undelete::undelete_on;
 
 // What create, deposit and undelete leave: the volume table, the last volume number given, and the coins of all deposits
 // ever.
-#[derive(Drop)]
+#[derive(Clone, Copy)]
 pub struct VolumesOutcome {
     pub answer: Answer,
     pub volumes: [Volume; 8],
@@ -25,7 +27,7 @@ pub struct VolumesOutcome {
 }
 
 // What delete leaves: the volume table and the token table.
-#[derive(Drop)]
+#[derive(Clone, Copy)]
 pub struct DeleteOutcome {
     pub answer: Answer,
     pub volumes: [Volume; 8],

@@ -1,8 +1,8 @@
 -- `starts_with` meets its contract: before each byte, what was compared and what is left to compare decide. Assumes nothing.
-use mathlib.Core.Logic.{⊎_elim}
 use Prim.Native.Nat.{◌-◌}
 use lib.ListN.{length}
 use Rattle.lists.specs.ByteLoopLaws.{StartsLoop, starts}
+use Rattle.lists.proofs.starts_with.Lts.{then-prefix-i, else-prefix-i}
 use Rattle.lists.proofs.starts_with.Statement.{statement}
 use Rattle.lists.proofs.starts_with.Tie as tie
 
@@ -18,5 +18,5 @@ starts_with_spec =
     (λ c. search starts)
     (λ c. search starts)
     (λ c. search starts)
-    (λ c. ⊎_elim (λ w. search starts) (λ w. search starts) c.if2.branch)
+    (λ c. elim c.if-prefix-i.branch [ then-prefix-i w ↦ search starts | else-prefix-i w ↦ search starts ])
     (λ c. search starts))

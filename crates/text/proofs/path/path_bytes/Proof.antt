@@ -1,9 +1,9 @@
 -- `path::path_bytes` meets its contract: at each byte, those before it and the rest decide. Assumes nothing.
-use mathlib.Core.Logic.{⊎_elim}
 use Prim.Native.Nat.{◌-◌}
 use lib.ListN.{length}
 use Rattle.lists.specs.LoopLaws.{EveryLoop, everys}
 use Rattle.text.specs.Text.{is_path_byte}
+use Rattle.text.proofs.path.path_bytes.Lts.{then-not-within, else-not-within}
 use Rattle.text.proofs.path.path_bytes.Statement.{statement}
 use Rattle.text.proofs.path.path_bytes.Tie as tie
 
@@ -18,5 +18,5 @@ path_bytes_spec =
     (λ c κs. search everys)
     (λ c. search everys)
     (λ c. search everys)
-    (λ c. ⊎_elim (λ w. search everys) (λ w. search everys) c.if1.branch)
+    (λ c. elim c.if-not-within.branch [ then-not-within w ↦ search everys | else-not-within w ↦ search everys ])
     (λ c. search everys))

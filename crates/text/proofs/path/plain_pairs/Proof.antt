@@ -1,8 +1,8 @@
 -- `path::plain_pairs` meets its contract: at each pair, those before it and the rest decide. Assumes nothing.
-use mathlib.Core.Logic.{⊎_elim}
 use Prim.Native.Nat.{◌-◌}
 use lib.ListN.{length}
 use Rattle.text.specs.PlainLaws.{PairsLoop, pairs}
+use Rattle.text.proofs.path.plain_pairs.Lts.{then-is_doubtful, else-is_doubtful}
 use Rattle.text.proofs.path.plain_pairs.Statement.{statement}
 use Rattle.text.proofs.path.plain_pairs.Tie as tie
 
@@ -19,5 +19,5 @@ plain_pairs_spec =
     (λ c κs. search pairs)
     (λ c. search pairs)
     (λ c. search pairs)
-    (λ c. ⊎_elim (λ w. search pairs) (λ w. search pairs) c.if1.branch)
+    (λ c. elim c.if-is_doubtful.branch [ then-is_doubtful w ↦ search pairs | else-is_doubtful w ↦ search pairs ])
     (λ c. search pairs))
