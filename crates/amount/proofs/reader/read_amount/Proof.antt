@@ -11,7 +11,6 @@ unfolding amount_of
 read_amount_spec =
     tie.close
     (tie.spec
-    (λ c. search rules)
     (λ c κs. search rules)
     (λ c. search (checks, said))  -- no limit
     (λ c κs. search rules)

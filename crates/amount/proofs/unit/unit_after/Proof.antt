@@ -9,16 +9,12 @@ pub unit_after_spec : {M : Type 1} → statement M
 unit_after_spec =
     tie.close
     (tie.spec
-    (λ c. search rules)
     (λ c κs. search rules)
     (λ c. search (unit_compared, goes_on, stops, said))  -- B
-    (λ c. search rules)
     (λ c κs. search rules)
     (λ c. search (unit_compared, goes_on, stops, said))  -- KiB
-    (λ c. search rules)
     (λ c κs. search rules)
     (λ c. search (unit_compared, goes_on, stops, said))  -- MiB
-    (λ c. search rules)
     (λ c κs. search rules)
     (λ c. search (unit_compared, goes_on, stops, said) depth 7)  -- GiB
     (λ c. search (unit_compared, goes_on, stops, said) depth 7))  -- Nothing

@@ -7,4 +7,4 @@ fresh_volume_spec =
     tie.close
     (tie.spec
     (λ c κs. search rules)
-    (λ c. rw c.empty_name.ensures))
+    (λ c. rw c.empty_name-name.ensures))
