@@ -1,8 +1,8 @@
 -- `lines` is safe and ends: a line starts at or before the byte that is looked at.
-use mathlib.Core.Logic.{⊎_elim}
 use Prim.Native.Nat.{◌≤◌, ◌-◌}
 use borrow.Author.Rules.{rules}
 use lib.ListN.{length}
+use Rattle.amount_cases.proofs.lines.Lts.{then-text-i-eq10, else-text-i-eq10}
 use Rattle.amount_cases.proofs.lines.Statement.{statement}
 use Rattle.amount_cases.proofs.lines.Tie as tie
 
@@ -21,5 +21,5 @@ lines_spec =
     (λ c. search rules)
     (λ c. search rules)
     (λ c. search rules)
-    (λ c. ⊎_elim (λ w. search rules) (λ w. search rules) c.if1.branch)
+    (λ c. elim c.if-text-i-eq10.branch [ then-text-i-eq10 w ↦ search rules | else-text-i-eq10 w ↦ search rules ])
     (λ c. search rules))

@@ -1,9 +1,9 @@
 use Prim.Native.Nat.{◌-◌}
-use mathlib.Core.Logic.{⊎_elim}
 use Rattle.rules.specs.Tables.{is_entry}
 use Rattle.lists.specs.LoopLaws.{FindLoop, finds}
 use Rattle.rows.specs.EntryLaws.{entry_here, entry_past}
 use borrow.Author.Rules.{rules}
+use Rattle.rows.proofs.texts.find_entry.Lts.{then-rows-i, else-rows-i}
 use Rattle.rows.proofs.texts.find_entry.Statement.{statement}
 use Rattle.rows.proofs.texts.find_entry.Tie as tie
 
@@ -22,5 +22,5 @@ find_entry_spec =
     (λ c. search (entry_here, rules))
     (λ c. search finds)
     (λ c. search finds)
-    (λ c. ⊎_elim (λ w. search finds) (λ w. search (entry_past, rules)) c.if1.branch)
+    (λ c. elim c.if-rows-i.branch [ then-rows-i w ↦ search finds | else-rows-i w ↦ search (entry_past, rules) ])
     (λ c. search finds))

@@ -7,4 +7,4 @@ fresh_token_spec =
     tie.close
     (tie.spec
     (λ c κs. search rules)
-    (λ c. rw c.empty-text.ensures))
+    (λ c. rw c.empty_text-prefix.ensures))
