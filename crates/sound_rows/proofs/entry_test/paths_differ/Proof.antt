@@ -1,11 +1,11 @@
 -- `entry_test::paths_differ` meets its contract: a row clashes with a later one only where their keys are the same. Assumes nothing.
-use mathlib.Core.Logic.{⊎_elim}
 use Prim.Native.Nat.{◌+◌, ◌-◌}
 use lib.ListN.{get_or}
 use Rattle.rules.specs.Sound.{same_entry}
 use Rattle.rows.specs.Blank.{blank_entry}
 use Rattle.lists.specs.LoopLaws.{AnyLoop, anys, ClashLoop, clashes}
 use Rattle.sound_rows.proofs.KeyLaws.{path_again, path_once, no_path, key_differs}
+use Rattle.sound_rows.proofs.entry_test.paths_differ.Lts.{then-keys-j, then-key-ne0, else-keys-j, else-key-ne0}
 use Rattle.sound_rows.proofs.entry_test.paths_differ.Statement.{statement}
 use Rattle.sound_rows.proofs.entry_test.paths_differ.Tie as tie
 
@@ -32,8 +32,8 @@ paths_differ_spec =
     (λ c. search path_again)
     (λ c. search anys)
     (λ c. search anys)
-    (λ c. ⊎_elim (λ w. search anys) (λ w. search key_differs) c.if2.branch)
+    (λ c. elim c.if-keys-j.branch [ then-keys-j w ↦ search anys | else-keys-j w ↦ search key_differs ])
     (λ c. search clashes)
     (λ c. search clashes)
-    (λ c. ⊎_elim (λ w. search path_once) (λ w. search no_path) c.if1.branch)
+    (λ c. elim c.if-key-ne0.branch [ then-key-ne0 w ↦ search path_once | else-key-ne0 w ↦ search no_path ])
     (λ c. search clashes))

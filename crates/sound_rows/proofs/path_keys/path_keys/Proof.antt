@@ -1,11 +1,11 @@
 -- `path_keys::path_keys` meets its contract: after i turns the keys of the first i entries are stored. Assumes nothing.
-use mathlib.Core.Logic.{⊎_elim}
 use mathlib.Core.List.{map}
 use Prim.Native.Nat.{◌-◌}
 use lib.ListN.{replicate}
 use Rattle.lists.specs.ByteLoopLaws.{FillLoop, Fills-of}
 use Rattle.sound_rows.specs.PathKeys.{path_key}
 use Rattle.sound_rows.proofs.KeyLaws.{key_skipped, key_stored}
+use Rattle.sound_rows.proofs.path_keys.path_keys.Lts.{then-e-ne0, else-e-ne0}
 use Rattle.sound_rows.proofs.path_keys.path_keys.Statement.{statement}
 use Rattle.sound_rows.proofs.path_keys.path_keys.Tie as tie
 
@@ -23,5 +23,5 @@ path_keys_spec =
     (λ c. search Fills-of)
     (λ c. search Fills-of)
     (λ c. search Fills-of)
-    (λ c. ⊎_elim (λ w. search key_stored) (λ w. search key_skipped) c.if1.branch)
+    (λ c. elim c.if-e-ne0.branch [ then-e-ne0 w ↦ search key_stored | else-e-ne0 w ↦ search key_skipped ])
     (λ c. search Fills-of))

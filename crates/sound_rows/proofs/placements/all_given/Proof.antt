@@ -1,8 +1,8 @@
-use mathlib.Core.Logic.{⊎_elim}
 use Prim.Native.Nat.{◌-◌}
 use lib.ListN.{length}
 use Rattle.rules.specs.Sound.{is_given}
 use Rattle.sound_rows.proofs.PlaceLaws.{EachLoop, eachs, each_no, each_yes}
+use Rattle.sound_rows.proofs.placements.all_given.Lts.{then-not-is_given, else-not-is_given}
 use Rattle.sound_rows.proofs.placements.all_given.Statement.{statement}
 use Rattle.sound_rows.proofs.placements.all_given.Tie as tie
 
@@ -18,5 +18,5 @@ all_given_spec =
     (λ c κs. search eachs)
     (λ c. search eachs)
     (λ c. search eachs)
-    (λ c. ⊎_elim (λ w. search each_no) (λ w. search each_yes) c.if1.branch)
+    (λ c. elim c.if-not-is_given.branch [ then-not-is_given w ↦ search each_no | else-not-is_given w ↦ search each_yes ])
     (λ c. search eachs))

@@ -1,7 +1,7 @@
-use mathlib.Core.Logic.{⊎_elim}
 use Prim.Native.Nat.{◌-◌}
 use lib.ListN.{length}
 use Rattle.sound_rows.proofs.PlaceLaws.{AmongLoop, amongs, among_yes, among_no}
+use Rattle.sound_rows.proofs.placements.among.Lts.{then-numbers-i, else-numbers-i}
 use Rattle.sound_rows.proofs.placements.among.Statement.{statement}
 use Rattle.sound_rows.proofs.placements.among.Tie as tie
 
@@ -16,5 +16,5 @@ among_spec =
     (λ c. search amongs)
     (λ c. search amongs)
     (λ c. search amongs)
-    (λ c. ⊎_elim (λ w. search among_yes) (λ w. search among_no) c.if1.branch)
+    (λ c. elim c.if-numbers-i.branch [ then-numbers-i w ↦ search among_yes | else-numbers-i w ↦ search among_no ])
     (λ c. search amongs))

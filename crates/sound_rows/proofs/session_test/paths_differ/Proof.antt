@@ -1,11 +1,11 @@
 -- `session_test::paths_differ` meets its contract: a put has the path of a later one only where their keys are the same. Assumes nothing.
-use mathlib.Core.Logic.{⊎_elim}
 use Prim.Native.Nat.{◌+◌, ◌-◌}
 use lib.ListN.{get_or, take}
 use Rattle.rules.specs.Sound.{same_path}
 use Rattle.rows.specs.Blank.{blank_put}
 use Rattle.lists.specs.LoopLaws.{AnyLoop, anys-part, ClashLoop, clashes-part}
 use Rattle.sound_rows.proofs.PutKeyLaws.{put_again, put_once, put_differs, put_other}
+use Rattle.sound_rows.proofs.session_test.paths_differ.Lts.{then-keys-j, else-keys-j}
 use Rattle.sound_rows.proofs.session_test.paths_differ.Statement.{statement}
 use Rattle.sound_rows.proofs.session_test.paths_differ.Tie as tie
 
@@ -34,7 +34,7 @@ paths_differ_spec =
     (λ c. search put_again)
     (λ c. search anys-part)
     (λ c. search anys-part)
-    (λ c. ⊎_elim (λ w. search put_differs) (λ w. search put_other) c.if1.branch)
+    (λ c. elim c.if-keys-j.branch [ then-keys-j w ↦ search put_differs | else-keys-j w ↦ search put_other ])
     (λ c. search clashes-part)
     (λ c. search clashes-part)
     (λ c. search put_once)
