@@ -1,8 +1,8 @@
 -- `raw::raw_from` meets its contract: before each number, what was added so far and the rest are the whole. Assumes nothing.
-use mathlib.Core.Logic.{⊎_elim}
 use Prim.Native.Nat.{◌-◌}
 use lib.ListN.{length}
 use Rattle.rents.proofs.RawLaws.{RawLoop, raws}
+use Rattle.rents.proofs.raw.raw_from.Lts.{then-is_number, else-is_number}
 use Rattle.rents.proofs.raw.raw_from.Statement.{statement}
 use Rattle.rents.proofs.raw.raw_from.Tie as tie
 
@@ -22,5 +22,5 @@ raw_from_spec =
     (λ c κs. search raws)
     (λ c. search raws)
     (λ c. search raws)
-    (λ c. ⊎_elim (λ w. search raws) (λ w. search raws) c.if2.branch)
+    (λ c. elim c.if-is_number.branch [ then-is_number w ↦ search raws | else-is_number w ↦ search raws ])
     (λ c. search raws))

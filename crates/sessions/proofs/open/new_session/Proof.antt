@@ -8,4 +8,4 @@ new_session_spec =
     tie.close
     (tie.spec
     (λ c κs. search rules)
-    (λ c. rw c.fresh-put.ensures))
+    (λ c. rw c.fresh_put-put.ensures))

@@ -8,4 +8,4 @@ make_put_spec =
     tie.close
     (tie.spec
     (λ c κs. search rules)
-    (λ c. rw c.to-text.ensures))
+    (λ c. rw c.to_text-text.ensures))

@@ -5,7 +5,7 @@ use Rattle.rules.specs.Sound.{same_entry}
 use Rattle.rows.specs.Blank.{blank_entry}
 use Rattle.lists.specs.LoopLaws.{AnyLoop, anys, ClashLoop, clashes}
 use Rattle.sound_rows.proofs.KeyLaws.{path_again, path_once, no_path, key_differs}
-use Rattle.sound_rows.proofs.entry_test.paths_differ.Lts.{then-keys-j, then-key-ne0, else-keys-j, else-key-ne0}
+use Rattle.sound_rows.proofs.entry_test.paths_differ.Lts.{else-key-ne0, else-keys-j, then-key-ne0+else-loop-j-test, then-keys-j+else-same_entry}
 use Rattle.sound_rows.proofs.entry_test.paths_differ.Statement.{statement}
 use Rattle.sound_rows.proofs.entry_test.paths_differ.Tie as tie
 
@@ -32,8 +32,8 @@ paths_differ_spec =
     (λ c. search path_again)
     (λ c. search anys)
     (λ c. search anys)
-    (λ c. elim c.if-keys-j.branch [ then-keys-j w ↦ search anys | else-keys-j w ↦ search key_differs ])
+    (λ c. elim c.if-keys-j.branch [ then-keys-j+else-same_entry w ↦ search anys | else-keys-j w ↦ search key_differs ])
     (λ c. search clashes)
     (λ c. search clashes)
-    (λ c. elim c.if-key-ne0.branch [ then-key-ne0 w ↦ search path_once | else-key-ne0 w ↦ search no_path ])
+    (λ c. elim c.if-key-ne0.branch [ then-key-ne0+else-loop-j-test w ↦ search path_once | else-key-ne0 w ↦ search no_path ])
     (λ c. search clashes))

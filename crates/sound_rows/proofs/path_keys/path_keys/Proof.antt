@@ -5,7 +5,7 @@ use lib.ListN.{replicate}
 use Rattle.lists.specs.ByteLoopLaws.{FillLoop, Fills-of}
 use Rattle.sound_rows.specs.PathKeys.{path_key}
 use Rattle.sound_rows.proofs.KeyLaws.{key_skipped, key_stored}
-use Rattle.sound_rows.proofs.path_keys.path_keys.Lts.{then-e-ne0, else-e-ne0}
+use Rattle.sound_rows.proofs.path_keys.path_keys.Lts.{else-e-ne0, then-e-ne0}
 use Rattle.sound_rows.proofs.path_keys.path_keys.Statement.{statement}
 use Rattle.sound_rows.proofs.path_keys.path_keys.Tie as tie
 

@@ -2,7 +2,7 @@ use Prim.Native.Nat.{◌-◌}
 use lib.ListN.{length}
 use Rattle.rules.specs.Sound.{is_given}
 use Rattle.sound_rows.proofs.PlaceLaws.{EachLoop, eachs, each_no, each_yes}
-use Rattle.sound_rows.proofs.placements.all_given.Lts.{then-not-is_given, else-not-is_given}
+use Rattle.sound_rows.proofs.placements.all_given.Lts.{else-not-is_given, then-not-is_given}
 use Rattle.sound_rows.proofs.placements.all_given.Statement.{statement}
 use Rattle.sound_rows.proofs.placements.all_given.Tie as tie
 

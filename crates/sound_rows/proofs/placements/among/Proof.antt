@@ -1,7 +1,7 @@
 use Prim.Native.Nat.{◌-◌}
 use lib.ListN.{length}
 use Rattle.sound_rows.proofs.PlaceLaws.{AmongLoop, amongs, among_yes, among_no}
-use Rattle.sound_rows.proofs.placements.among.Lts.{then-numbers-i, else-numbers-i}
+use Rattle.sound_rows.proofs.placements.among.Lts.{else-numbers-i, then-numbers-i}
 use Rattle.sound_rows.proofs.placements.among.Statement.{statement}
 use Rattle.sound_rows.proofs.placements.among.Tie as tie
 

@@ -5,7 +5,7 @@ use Rattle.rules.specs.Sound.{same_path}
 use Rattle.rows.specs.Blank.{blank_put}
 use Rattle.lists.specs.LoopLaws.{AnyLoop, anys-part, ClashLoop, clashes-part}
 use Rattle.sound_rows.proofs.PutKeyLaws.{put_again, put_once, put_differs, put_other}
-use Rattle.sound_rows.proofs.session_test.paths_differ.Lts.{then-keys-j, else-keys-j}
+use Rattle.sound_rows.proofs.session_test.paths_differ.Lts.{else-keys-j, then-keys-j+else-same_path}
 use Rattle.sound_rows.proofs.session_test.paths_differ.Statement.{statement}
 use Rattle.sound_rows.proofs.session_test.paths_differ.Tie as tie
 
@@ -34,7 +34,7 @@ paths_differ_spec =
     (λ c. search put_again)
     (λ c. search anys-part)
     (λ c. search anys-part)
-    (λ c. elim c.if-keys-j.branch [ then-keys-j w ↦ search put_differs | else-keys-j w ↦ search put_other ])
+    (λ c. elim c.if-keys-j.branch [ then-keys-j+else-same_path w ↦ search put_differs | else-keys-j w ↦ search put_other ])
     (λ c. search clashes-part)
     (λ c. search clashes-part)
     (λ c. search put_once)

@@ -1,7 +1,7 @@
 -- `revoke::clear_rows` meets its contract: the rows of the set, one after another. Assumes nothing.
 use Prim.Native.Nat.{◌-◌}
-use mathlib.Core.Logic.{⊎_elim}
 use Rattle.tokens.proofs.RevokeLaws.{ClearSetLoop, clears, clear_row, keep_row}
+use Rattle.tokens.proofs.revoke.clear_rows.Lts.{then-in_set, else-in_set}
 use Rattle.tokens.proofs.revoke.clear_rows.Statement.{statement}
 use Rattle.tokens.proofs.revoke.clear_rows.Tie as tie
 
@@ -18,5 +18,5 @@ clear_rows_spec =
     (λ c. search clears)
     (λ c. search clears)
     (λ c. search clears)
-    (λ c. ⊎_elim (λ w. search clear_row) (λ w. search keep_row) c.if1.branch)
+    (λ c. elim c.if-in_set.branch [ then-in_set w ↦ search clear_row | else-in_set w ↦ search keep_row ])
     (λ c. search clears))

@@ -1,7 +1,7 @@
 -- `revoke::descendant_rows` meets its contract: before each row, the bits of the rows so far. Assumes nothing.
 use Prim.Native.Nat.{◌-◌}
-use mathlib.Core.Logic.{⊎_elim}
 use Rattle.tokens.proofs.WalkLaws.{DescendantsLoop, descendant-sets}
+use Rattle.tokens.proofs.revoke.descendant_rows.Lts.{then-descends, else-descends}
 use Rattle.tokens.proofs.revoke.descendant_rows.Statement.{statement}
 use Rattle.tokens.proofs.revoke.descendant_rows.Tie as tie
 
@@ -22,5 +22,5 @@ descendant_rows_spec =
     (λ c. search descendant-sets)
     (λ c. search descendant-sets)
     (λ c. search descendant-sets)
-    (λ c. ⊎_elim (λ w. search descendant-sets) (λ w. search descendant-sets) c.if1.branch)
+    (λ c. elim c.if-descends.branch [ then-descends w ↦ search descendant-sets | else-descends w ↦ search descendant-sets ])
     (λ c ts l e f. search descendant-sets))

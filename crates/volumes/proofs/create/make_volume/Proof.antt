@@ -8,4 +8,4 @@ make_volume_spec =
     tie.close
     (tie.spec
     (λ c κs. search rules)
-    (λ c. rw c.to-name.ensures))
+    (λ c. rw c.to_name-text.ensures))

@@ -1,9 +1,9 @@
 -- `drop_tokens` meets its contract: after i turns the first i rows are cleared, and the others are as they came. Assumes nothing.
 use Prim.Native.Nat.{◌-◌}
-use mathlib.Core.Logic.{⊎_elim}
 use Rattle.rules.specs.Fresh.{fresh_token}
 use Rattle.rules.specs.VolumeCalls.{is_token_of}
 use Rattle.rules.specs.Laws.ClearLoops.{ClearLoop, clears}
+use Rattle.volumes.proofs.delete.drop_tokens.Lts.{then-is_token_of, else-is_token_of}
 use Rattle.volumes.proofs.delete.drop_tokens.Statement.{statement}
 use Rattle.volumes.proofs.delete.drop_tokens.Tie as tie
 
@@ -24,5 +24,5 @@ drop_tokens_spec =
     (λ c. search clears)
     (λ c. search clears)
     (λ c. search clears)
-    (λ c. ⊎_elim (λ w. search clears) (λ w. search clears) c.if1.branch)
+    (λ c. elim c.if-is_token_of.branch [ then-is_token_of w ↦ search clears | else-is_token_of w ↦ search clears ])
     (λ c. search clears))
