@@ -6,4 +6,4 @@ use Rattle.placing.proofs.put.not_placed.Tie as tie
 
 pub not_placed_spec : {M : Type 1} → statement M
 unfolding not_placed
-not_placed_spec = tie.close (tie.spec (λ c κs. search rules) (λ c. rw c.fresh-placement.ensures))
+not_placed_spec = tie.close (tie.spec (λ c κs. search rules) (λ c. rw c.fresh_placement-place.ensures))

@@ -1,10 +1,10 @@
 -- `room::held_set` meets its contract: before each row, the bits of the rows so far. Assumes nothing.
-use mathlib.Core.Logic.{⊎_elim}
 use Prim.Native.Nat.{◌-◌}
 use borrow.Author.Rules.{rules}
 use Rattle.placing.specs.Room.{has_shard}
 use Rattle.placing.proofs.SetLaws.{SetLoop, sets}
 use Rattle.placing.proofs.RoomLaws.{held_adds, held_skips, placed}
+use Rattle.placing.proofs.room.held_set.Lts.{then-any_number, else-any_number}
 use Rattle.placing.proofs.room.held_set.Statement.{statement}
 use Rattle.placing.proofs.room.held_set.Tie as tie
 
@@ -23,5 +23,5 @@ held_set_spec =
     (λ c. search sets)
     (λ c. search sets)
     (λ c. search sets)
-    (λ c. ⊎_elim (λ w. search (held_adds, rules)) (λ w. search (held_skips, rules)) c.if1.branch)
+    (λ c. elim c.if-any_number.branch [ then-any_number w ↦ search (held_adds, rules) | else-any_number w ↦ search (held_skips, rules) ])
     (λ c. search sets))

@@ -1,8 +1,8 @@
 -- `set::eligible` meets its contract: before each row, the bits of the rows so far. Assumes nothing.
-use mathlib.Core.Logic.{⊎_elim}
 use Prim.Native.Nat.{◌-◌}
 use Rattle.rules.specs.Relays.{is_eligible, eligible_set}
 use Rattle.placing.proofs.SetLaws.{SetLoop, sets}
+use Rattle.placing.proofs.set.eligible.Lts.{then-is_eligible, else-is_eligible}
 use Rattle.placing.proofs.set.eligible.Statement.{statement}
 use Rattle.placing.proofs.set.eligible.Tie as tie
 
@@ -21,5 +21,5 @@ eligible_spec =
     (λ c. search sets)
     (λ c. search sets)
     (λ c. search sets)
-    (λ c. ⊎_elim (λ w. search sets) (λ w. search sets) c.if1.branch)
+    (λ c. elim c.if-is_eligible.branch [ then-is_eligible w ↦ search sets | else-is_eligible w ↦ search sets ])
     (λ c. search sets))

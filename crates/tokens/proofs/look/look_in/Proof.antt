@@ -5,7 +5,7 @@ use Rattle.lists.specs.LoopLaws.{FindLoop, finds}
 use Rattle.rows.specs.EntryLaws.{entry_past}
 use Rattle.tokens.proofs.LookLaws.{look_here, look_past}
 use borrow.Author.Rules.{rules}
-use Rattle.tokens.proofs.look.look_in.Lts.{then-entries-i, else-entries-i}
+use Rattle.tokens.proofs.look.look_in.Lts.{else-entries-i, then-entries-i+else-is_entry}
 use Rattle.tokens.proofs.look.look_in.Statement.{statement}
 use Rattle.tokens.proofs.look.look_in.Tie as tie
 
@@ -25,7 +25,7 @@ look_in_spec =
     (λ c t e f. search (look_here, rules))  -- at the row
     (λ c. search finds)
     (λ c. search finds)
-    (λ c. elim c.if-entries-i.branch [ then-entries-i w ↦ search finds | else-entries-i w ↦ search (entry_past, rules) ])
+    (λ c. elim c.if-entries-i.branch [ then-entries-i+else-is_entry w ↦ search finds | else-entries-i w ↦ search (entry_past, rules) ])
     (λ c κs. search rules)
     (λ c κs. search rules)
     (λ c t e f. search (look_past, rules)))  -- no such row

@@ -1,7 +1,7 @@
 -- `revoke::clear_rows` meets its contract: the rows of the set, one after another. Assumes nothing.
 use Prim.Native.Nat.{◌-◌}
 use Rattle.tokens.proofs.RevokeLaws.{ClearSetLoop, clears, clear_row, keep_row}
-use Rattle.tokens.proofs.revoke.clear_rows.Lts.{then-in_set, else-in_set}
+use Rattle.tokens.proofs.revoke.clear_rows.Lts.{else-in_set, then-in_set}
 use Rattle.tokens.proofs.revoke.clear_rows.Statement.{statement}
 use Rattle.tokens.proofs.revoke.clear_rows.Tie as tie
 

@@ -1,7 +1,7 @@
 -- `revoke::descendant_rows` meets its contract: before each row, the bits of the rows so far. Assumes nothing.
 use Prim.Native.Nat.{◌-◌}
 use Rattle.tokens.proofs.WalkLaws.{DescendantsLoop, descendant-sets}
-use Rattle.tokens.proofs.revoke.descendant_rows.Lts.{then-descends, else-descends}
+use Rattle.tokens.proofs.revoke.descendant_rows.Lts.{else-descends, then-descends}
 use Rattle.tokens.proofs.revoke.descendant_rows.Statement.{statement}
 use Rattle.tokens.proofs.revoke.descendant_rows.Tie as tie
 
