@@ -26,11 +26,11 @@ use Rattle.rules.specs.Tables.{given, used_relay, free_relay, with_room}
 use Rattle.rules.specs.Relays.{health, shard_size, is_eligible, ranked, number_of, taken, same_relay, holds_shard, loaded, too_few, placement_of}
 use Rattle.rules.specs.Sound.{shards_fit}
 use Rattle.rules.specs.Commit.{Placed, no_place, placed, and_placed, place_all}
-use Rattle.rules.specs.Laws.ApartLaws.{used_not_free, other_part, either_part}
-use Rattle.rules.specs.Laws.CeilLaws.{ceil_most}
-use Rattle.rules.specs.Laws.MappedLaws.{all_mapped}
-use Rattle.rules.specs.Laws.PlaceLaws.{ranked_pass, placed_on_lem}
-use Rattle.rules.specs.Laws.TakeLaws.{all_take}
+use Rattle.rules.proofs.Laws.ApartLaws.{used_not_free, other_part, either_part}
+use Rattle.rules.proofs.Laws.CeilLaws.{ceil_most}
+use Rattle.rules.proofs.Laws.MappedLaws.{all_mapped}
+use Rattle.rules.proofs.Laws.PlaceLaws.{ranked_pass, placed_on_lem}
+use Rattle.rules.proofs.Laws.TakeLaws.{all_take}
 use Rattle.placing.specs.declared.PlacedPut.{PlacedPut}
 use Rattle.placing.specs.Room.{can_load_all}
 use Rattle.placing.specs.Put.{not_placed, took_place, placed_put}

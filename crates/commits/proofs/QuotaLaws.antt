@@ -15,7 +15,7 @@ use Rattle.lists.specs.ByteLoopLaws.{FillLoop, fill_start, fill_step_of, fill_sa
 use Rattle.rules.specs.declared.Token.{Token}
 use Rattle.rules.specs.Limits.{used_limit}
 use Rattle.rules.specs.Tables.{free_token, numbered, with_used}
-use Rattle.rules.specs.Laws.ApartLaws.{other_part}
+use Rattle.rules.proofs.Laws.ApartLaws.{other_part}
 use Rattle.rules.specs.Commit.{charged}
 use Rattle.rows.specs.Blank.{blank_token}
 use Rattle.rows.specs.Links.{token_number}

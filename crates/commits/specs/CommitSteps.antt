@@ -24,8 +24,8 @@ use Rattle.rules.specs.Scope.{in_window, family}
 use Rattle.rules.specs.Sound.{shards_fit}
 use Rattle.rules.specs.Outcome.{slot_refused}
 use Rattle.rules.specs.VolumeCalls.{is_active}
-use Rattle.rules.specs.Laws.ApartLaws.{used_not_free, other_part}
-use Rattle.rules.specs.Laws.NumberLaws.{numbered_used, numbered_eq, found_passes}
+use Rattle.rules.proofs.Laws.ApartLaws.{used_not_free, other_part}
+use Rattle.rules.proofs.Laws.NumberLaws.{numbered_used, numbered_eq, found_passes}
 use Rattle.rules.specs.Commit.{Placed, no_place, placed, staged_bytes, is_replaced, is_new_path, passes_quotas, passes_size, passes_room, below_rent, place_all, committed, commit_placed, commit_limits, commit_token, commit_volume}
 use Rattle.rows.specs.Blank.{blank_volume, blank_token}
 use Rattle.entries.specs.MarkLaws.{marked_keep}

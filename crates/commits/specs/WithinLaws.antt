@@ -15,9 +15,9 @@ use Rattle.rules.specs.declared.Tables.{Tables}
 use Rattle.rules.specs.Limits.{entry_rows, size_limit, capacity_limit}
 use Rattle.rules.specs.Tables.{busy, staged, free_volume, free_entry, free_token, free_relay}
 use Rattle.rules.specs.Sound.{sound_volume, sound_entry, sound_token, sound_relay, sound_put, sound_session, sound_tables}
-use Rattle.rules.specs.Laws.ApartLaws.{not_free_used, other_part, either_part}
-use Rattle.rules.specs.Laws.RowFacts.{volume_facts, entry_facts, token_facts, relay_facts, session_facts}
-use Rattle.rules.specs.Laws.SoundParts.{parts_of}
+use Rattle.rules.proofs.Laws.ApartLaws.{not_free_used, other_part, either_part}
+use Rattle.rules.proofs.Laws.RowFacts.{volume_facts, entry_facts, token_facts, relay_facts, session_facts}
+use Rattle.rules.proofs.Laws.SoundParts.{parts_of}
 use Rattle.rules.specs.Commit.{commit_rule}
 use Rattle.placing.specs.PutLaws.{few_held, sound_few}
 use Rattle.surveys.specs.RowLimits.{volume_within, entry_within, token_within, relay_within, put_within, session_within}

@@ -21,8 +21,8 @@ use Rattle.rules.specs.Outcome.{desk_refused, on_tables}
 use Rattle.rules.specs.Sound.{sound, sound_tables, sound_session}
 use Rattle.rules.specs.Advance.{advance_rule}
 use Rattle.rules.specs.Commit.{commit_rule}
-use Rattle.rules.specs.Laws.RowFacts.{idle_session}
-use Rattle.rules.specs.Laws.SoundParts.{of_parts, tables_sound, slots_sound}
+use Rattle.rules.proofs.Laws.RowFacts.{idle_session}
+use Rattle.rules.proofs.Laws.SoundParts.{of_parts, tables_sound, slots_sound}
 use Rattle.rules.specs.Calls.{Ask, Work, Call, ask_rule, work_rule, with_slot, rule, step}
 use Rattle.commits.specs.Within.{commit_within}
 use Rattle.commits.specs.WithinLaws.{commit_sound}

@@ -19,7 +19,7 @@ use Rattle.rules.specs.Tables.{numbered, is_volume, used_token, cleared}
 use Rattle.rules.specs.Relays.{lightened}
 use Rattle.rules.specs.VolumeCalls.{drop_entries}
 use Rattle.rules.specs.Advance.{is_due, is_one_of, entry_of_one, token_of_one, collect}
-use Rattle.rules.specs.Laws.RoomLaws.{no_zero}
+use Rattle.rules.proofs.Laws.RoomLaws.{no_zero}
 use Rattle.placing.specs.GiveLaws.{map_same, after_none}
 use Rattle.epochs.specs.Gone.{due_number, entry_gone, token_gone}
 

@@ -15,8 +15,8 @@ use Rattle.rules.specs.Tables.{used_volume}
 use Rattle.rules.specs.Rent.{epoch_ends}
 use Rattle.rules.specs.Sound.{sound_grace, sound_volume, sound_tables}
 use Rattle.rules.specs.Advance.{advance_rule}
-use Rattle.rules.specs.Laws.RowFacts.{volume_facts, or_last}
-use Rattle.rules.specs.Laws.SoundParts.{parts_of}
+use Rattle.rules.proofs.Laws.RowFacts.{volume_facts, or_last}
+use Rattle.rules.proofs.Laws.SoundParts.{parts_of}
 use Rattle.rents.specs.WithinLaws.{rent_sound}
 use Rattle.epochs.specs.Within.{most_grace, can_settle, can_settle_all, can_advance, advance_within}
 

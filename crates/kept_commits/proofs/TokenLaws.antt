@@ -18,7 +18,7 @@ use Rattle.rules.specs.declared.Token.{Token}
 use Rattle.rules.specs.Limits.{used_limit}
 use Rattle.rules.specs.Tables.{numbered, is_token}
 use Rattle.rules.specs.Commit.{charged}
-use Rattle.rules.specs.Laws.ApartLaws.{other_part}
+use Rattle.rules.proofs.Laws.ApartLaws.{other_part}
 use Rattle.surveys.specs.RowLimits.{token_within}
 use Rattle.commits.specs.Charge.{numbers_of}
 use Rattle.commits.specs.ChargeLaws.{member_of}

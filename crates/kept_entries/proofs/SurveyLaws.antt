@@ -23,8 +23,8 @@ use Rattle.rules.specs.declared.Entry.{Entry}
 use Rattle.rules.specs.declared.Put.{Put}
 use Rattle.rules.specs.Limits.{size_limit}
 use Rattle.rules.specs.Tables.{used_entry, free_entry, in_volume}
-use Rattle.rules.specs.Laws.ApartLaws.{used_not_free, other_part}
-use Rattle.rules.specs.Laws.NumberLaws.{numbered_used}
+use Rattle.rules.proofs.Laws.ApartLaws.{used_not_free, other_part}
+use Rattle.rules.proofs.Laws.NumberLaws.{numbered_used}
 use Rattle.rules.specs.Commit.{is_replaced, is_new_path}
 use Rattle.rows.specs.EntryLaws.{not_in_volume}
 use Rattle.entries.specs.Marks.{is_set}

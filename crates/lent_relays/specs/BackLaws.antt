@@ -19,8 +19,8 @@ use Rattle.rules.specs.declared.Relay.{Relay}
 use Rattle.rules.specs.Limits.{clock_limit}
 use Rattle.rules.specs.Relays.{same_relay}
 use Rattle.rules.specs.Tables.{given, numbered, is_relay, used_relay, with_room}
-use Rattle.rules.specs.Laws.ApartLaws.{one_row}
-use Rattle.rules.specs.Laws.NumberLaws.{numbered_eq, numbered_used}
+use Rattle.rules.proofs.Laws.ApartLaws.{one_row}
+use Rattle.rules.proofs.Laws.NumberLaws.{numbered_eq, numbered_used}
 use Rattle.rows.specs.Blank.{blank_relay}
 use Rattle.lent_relays.specs.Lent.{row_fits, table_fits, back_in, back_answer, lighter, rows_after, back_rows}
 use Rattle.lent_relays.specs.FitLaws.{fits_of, kept_of, of_kept, free_fits, mapped_fits}

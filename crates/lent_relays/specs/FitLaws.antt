@@ -12,10 +12,10 @@ use Rattle.rules.specs.Fresh.{fresh_relay}
 use Rattle.rules.specs.Limits.{relay_rows, capacity_limit, clock_limit, last_number}
 use Rattle.rules.specs.Sound.{is_given, sound_relay, same_relay_row, sound_tables}
 use Rattle.rules.specs.Tables.{used_relay, free_relay}
-use Rattle.rules.specs.Laws.ApartLaws.{free_used, used_not_free, other_part}
-use Rattle.rules.specs.Laws.MappedLaws.{all_mapped, clash_mapped}
-use Rattle.rules.specs.Laws.RowFacts.{or_last, relay_facts, count_facts}
-use Rattle.rules.specs.Laws.SoundParts.{parts_of}
+use Rattle.rules.proofs.Laws.ApartLaws.{free_used, used_not_free, other_part}
+use Rattle.rules.proofs.Laws.MappedLaws.{all_mapped, clash_mapped}
+use Rattle.rules.proofs.Laws.RowFacts.{or_last, relay_facts, count_facts}
+use Rattle.rules.proofs.Laws.SoundParts.{parts_of}
 use Rattle.lent_relays.specs.Lent.{row_fits, table_fits}
 
 -- a row's parts

@@ -20,9 +20,9 @@ use Rattle.rules.specs.Limits.{relay_rows, clock_limit}
 use Rattle.rules.specs.Relays.{placed_on, same_relay, holds_shard, shard_bytes, lightened}
 use Rattle.rules.specs.Sound.{relay_given, sound_placement, sound_in, sound_entry, sound_tables}
 use Rattle.rules.specs.Tables.{used_entry, free_entry, is_volume}
-use Rattle.rules.specs.Laws.ApartLaws.{used_not_free, not_free_used, other_part, either_part}
-use Rattle.rules.specs.Laws.RowFacts.{entry_facts, count_facts}
-use Rattle.rules.specs.Laws.SoundParts.{parts_of}
+use Rattle.rules.proofs.Laws.ApartLaws.{used_not_free, not_free_used, other_part, either_part}
+use Rattle.rules.proofs.Laws.RowFacts.{entry_facts, count_facts}
+use Rattle.rules.proofs.Laws.SoundParts.{parts_of}
 use Rattle.lent_relays.specs.Lent.{table_fits}
 use Rattle.lent_relays.specs.BackLaws.{back_all, given_relay, less_fits, back_all_lem}
 use Rattle.lent_relays.specs.FitLaws.{later_fits, mapped_fits, sound_fits}

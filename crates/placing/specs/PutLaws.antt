@@ -23,10 +23,10 @@ use Rattle.rules.specs.Tables.{used_entry, used_relay, free_relay, with_room}
 use Rattle.rules.specs.Relays.{health, shard_size, holds_shard, shards_on, loaded, too_few, taken, placement_of}
 use Rattle.rules.specs.Sound.{sound_relay, same_relay_row}
 use Rattle.rules.specs.Commit.{no_place, placed, and_placed, place_all}
-use Rattle.rules.specs.Laws.ApartLaws.{used_not_free, not_free_used, other_part, either_part}
-use Rattle.rules.specs.Laws.RowFacts.{relay_facts}
-use Rattle.rules.specs.Laws.MappedLaws.{all_mapped}
-use Rattle.rules.specs.Laws.PlaceLaws.{fits_relay, fit_facts, taken_eligible, placed_on_lem}
+use Rattle.rules.proofs.Laws.ApartLaws.{used_not_free, not_free_used, other_part, either_part}
+use Rattle.rules.proofs.Laws.RowFacts.{relay_facts}
+use Rattle.rules.proofs.Laws.MappedLaws.{all_mapped}
+use Rattle.rules.proofs.Laws.PlaceLaws.{fits_relay, fit_facts, taken_eligible, placed_on_lem}
 use Rattle.placing.specs.declared.PlacedPut.{PlacedPut}
 use Rattle.placing.specs.Room.{can_load, can_load_all, most_bytes, most_shards}
 use Rattle.placing.specs.Put.{not_placed, took_place, placed_put}

@@ -9,9 +9,9 @@ use Rattle.lists.specs.Bytes.{bytes}
 use Rattle.rules.specs.declared.Desk.{Desk}
 use Rattle.rules.specs.Fresh.{fresh_desk}
 use Rattle.rules.specs.Calls.{Call, step, rule}
-use Rattle.rules.specs.Laws.StaysSound.{DeskInvariant}
-use Rattle.rules.specs.Laws.Reached.{call_keeps}
-use Rattle.rules.specs.Laws.FreshSound.{fresh_holds}
+use Rattle.rules.proofs.Laws.StaysSound.{DeskInvariant}
+use Rattle.rules.proofs.Laws.Reached.{call_keeps}
+use Rattle.rules.proofs.Laws.FreshSound.{fresh_holds}
 use Rattle.journal.specs.Fields.{Decoded, nothing, found}
 use Rattle.journal.specs.declared.Version.{Version}
 use Rattle.journal.specs.Records.{version_numbered, parse, read_record}

@@ -32,10 +32,10 @@ use Rattle.rules.specs.Fresh.{fresh_entry, fresh_session}
 use Rattle.rules.specs.Outcome.{desk_refused}
 use Rattle.rules.specs.Rent.{epoch_ends}
 use Rattle.rules.specs.Sound.{sound_entry, sound}
-use Rattle.rules.specs.Laws.SoundParts.{Parts, tables_sound}
-use Rattle.rules.specs.Laws.RowFacts.{entry_facts}
-use Rattle.rules.specs.Laws.AskCases.{Effect, advances, creates, deposits, deletes, undeletes, grants, attenuates, revokes, removes, looks, registers, beats, Does, refuses, takes, ask_cases}
-use Rattle.rules.specs.Laws.WorkCases.{WorkEffect, opening, restaging, staging, committing, abandoning, WorkDoes, refuses as declines, takes as performs, work_cases}
+use Rattle.rules.proofs.Laws.SoundParts.{Parts, tables_sound}
+use Rattle.rules.proofs.Laws.RowFacts.{entry_facts}
+use Rattle.rules.proofs.Laws.AskCases.{Effect, advances, creates, deposits, deletes, undeletes, grants, attenuates, revokes, removes, looks, registers, beats, Does, refuses, takes, ask_cases}
+use Rattle.rules.proofs.Laws.WorkCases.{WorkEffect, opening, restaging, staging, committing, abandoning, WorkDoes, refuses as declines, takes as performs, work_cases}
 use Rattle.rules.specs.Scope.{ScopeArg}
 use Rattle.rules.specs.Tables.{used_entry, in_volume, is_entry, volume_of, token_of, relay_of, entry_of}
 use Rattle.rules.specs.VolumeCalls.{create_in, create_rule, deposit_in, deposit_rule, delete_in, delete_rule, undelete_in, undelete_rule, remove_entry, remove_in, remove_rule}

@@ -16,7 +16,7 @@ use Rattle.text.specs.Text.{within}
 use Rattle.rules.specs.Relays.{ceil_div}
 use Rattle.rules.specs.Rent.{effective, rent_of}
 use Rattle.rules.specs.Sound.{shards_fit}
-use Rattle.rules.specs.Laws.CeilLaws.{ceil_most}
+use Rattle.rules.proofs.Laws.CeilLaws.{ceil_most}
 use Rattle.rents.specs.declared.Rent.TheVariants.{Coins, PastLimits}
 use Rattle.rents.specs.Within.{raw_limit, most_effective, rent_within}
 

@@ -15,9 +15,9 @@ use Rattle.rules.specs.Fresh.{fresh_entry}
 use Rattle.rules.specs.Tables.{used_volume, used_entry, in_volume}
 use Rattle.rules.specs.Rent.{size_of, sizes_in, effective, rent_of, rent_for, rent_now}
 use Rattle.rules.specs.Sound.{shards_fit, sound_volume, sound_entry, sound_tables}
-use Rattle.rules.specs.Laws.NumberLaws.{numbered_used}
-use Rattle.rules.specs.Laws.RowFacts.{volume_facts, entry_facts}
-use Rattle.rules.specs.Laws.SoundParts.{parts_of}
+use Rattle.rules.proofs.Laws.NumberLaws.{numbered_used}
+use Rattle.rules.proofs.Laws.RowFacts.{volume_facts, entry_facts}
+use Rattle.rules.proofs.Laws.SoundParts.{parts_of}
 use Rattle.rents.specs.declared.Rent.TheVariants.{Coins, PastLimits}
 use Rattle.rents.specs.Within.{raw_limit, most_raw, rent_within, raw_in, entry_volume, sizes_at, volume_rent}
 

@@ -1,5 +1,5 @@
--- The rules of document 01. A definition's file is named for the section that it renders; Theorems says what is proved of the rules, and the
--- proofs stand in Laws.
+-- The rules of document 01. A definition's file is named for the section that it renders. What is proved of the rules stands in proofs/, in
+-- Theorems and Laws.
 pub mod Limits
 pub mod Numbers
 pub mod Fresh
@@ -20,5 +20,3 @@ pub mod Coins
 pub mod Numbering
 pub mod Used
 pub mod Serial
-pub mod Laws
-pub mod Theorems

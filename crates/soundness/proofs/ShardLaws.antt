@@ -30,7 +30,7 @@ use Rattle.rules.specs.Tables.{given, numbered, is_volume, used_entry, free_volu
 use Rattle.rules.specs.Scope.{cap_fits}
 use Rattle.rules.specs.Relays.{shard_size, shard_bytes, holds_shard, bytes_on, shards_on}
 use Rattle.rules.specs.Sound.{is_given, shards_fit, sound_status, sound_volume, sound_volumes, same_volume, same_name, sound_in, sound_entry, sound_entries, same_entry}
-use Rattle.rules.specs.Laws.CeilLaws.{ceil_most}
+use Rattle.rules.proofs.Laws.CeilLaws.{ceil_most}
 use Rattle.rows.specs.ShardBytes.{shard_none, shard_some, bytes_none, bytes_at_lem}
 use Rattle.sound_rows.specs.Numbers.{volume_number, volume_k, relay_number}
 use Rattle.soundness.specs.Held.{held_set}

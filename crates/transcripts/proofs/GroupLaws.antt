@@ -25,8 +25,8 @@ use Rattle.rules.specs.Fresh.{fresh_session}
 use Rattle.rules.specs.Outcome.{refusal, on_tables}
 use Rattle.rules.specs.Commit.{commit_rule}
 use Rattle.rules.specs.Sound.{sound_tables, sound_session}
-use Rattle.rules.specs.Laws.SoundParts.{of_parts, tables_sound, slots_sound}
-use Rattle.rules.specs.Laws.StaysSound.{DeskInvariant}
+use Rattle.rules.proofs.Laws.SoundParts.{of_parts, tables_sound, slots_sound}
+use Rattle.rules.proofs.Laws.StaysSound.{DeskInvariant}
 use Rattle.rules.specs.Calls.{Ask, ask_rule, Work, commits, work_rule, ask, on_slot, with_slot, rule}
 use Rattle.rules.specs.Advance.{is_due, collect}
 use Rattle.rules.specs.Tables.{with_relays, with_last_relay}

@@ -27,9 +27,9 @@ use Rattle.kept_entries.specs.KeptEntries.{entries_in}
 use Rattle.replay_calls.specs.declared.Held.{Held}
 use Rattle.replay_calls.specs.Held.{held_tables, fresh_held}
 use Rattle.rules.specs.Calls.{Call, rule, step, run}
-use Rattle.rules.specs.Laws.StaysSound.{DeskInvariant}
-use Rattle.rules.specs.Laws.Reached.{call_keeps}
-use Rattle.rules.specs.Laws.FreshSound.{fresh_holds}
+use Rattle.rules.proofs.Laws.StaysSound.{DeskInvariant}
+use Rattle.rules.proofs.Laws.Reached.{call_keeps}
+use Rattle.rules.proofs.Laws.FreshSound.{fresh_holds}
 use Rattle.journal.specs.declared.Record.{Record}
 use Rattle.journal.specs.declared.Version.{Version}
 use Rattle.journal.specs.Records.{v01}

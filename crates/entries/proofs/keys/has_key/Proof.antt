@@ -1,9 +1,9 @@
 -- `keys::has_key` meets its contract: what was found with what is left is whether the number is there. Assumes nothing.
-use mathlib.Core.Logic.{⊎_elim}
 use Prim.Native.Nat.{◌-◌}
 use Rattle.entries.specs.Keys.{is_key}
 use Rattle.entries.proofs.FlagLaws.{FlagLoop}
 use Rattle.entries.proofs.KeyLaws.{has-keys}
+use Rattle.entries.proofs.keys.has_key.Lts.{then-keys-i, else-keys-i}
 use Rattle.entries.proofs.keys.has_key.Statement.{statement}
 use Rattle.entries.proofs.keys.has_key.Tie as tie
 
@@ -18,5 +18,5 @@ has_key_spec =
     (λ c. search has-keys)
     (λ c. search has-keys)
     (λ c. search has-keys)
-    (λ c. ⊎_elim (λ w. search has-keys) (λ w. search has-keys) c.if1.branch)
+    (λ c. elim c.if-keys-i.branch [ then-keys-i w ↦ search has-keys | else-keys-i w ↦ search has-keys ])
     (λ c. search has-keys))

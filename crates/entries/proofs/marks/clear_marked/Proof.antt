@@ -1,9 +1,9 @@
 -- `marks::clear_marked` meets its contract: after i turns the first i rows are cleared where they are marked. Assumes nothing.
-use mathlib.Core.Logic.{⊎_elim}
 use Prim.Native.Nat.{◌-◌}
 use Rattle.lists.specs.ByteLoopLaws.{FillLoop}
 use Rattle.entries.specs.Marks.{cleared_by}
 use Rattle.entries.specs.MarkLaws.{clearing}
+use Rattle.entries.proofs.marks.clear_marked.Lts.{then-marks-i, else-marks-i}
 use Rattle.entries.proofs.marks.clear_marked.Statement.{statement}
 use Rattle.entries.proofs.marks.clear_marked.Tie as tie
 
@@ -20,5 +20,5 @@ clear_marked_spec =
     (λ c. search clearing)
     (λ c. search clearing)
     (λ c. search clearing)
-    (λ c. ⊎_elim (λ w. search clearing) (λ w. search clearing) c.if1.branch)
+    (λ c. elim c.if-marks-i.branch [ then-marks-i w ↦ search clearing | else-marks-i w ↦ search clearing ])
     (λ c. search clearing))

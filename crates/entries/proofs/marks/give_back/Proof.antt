@@ -1,8 +1,8 @@
 -- `marks::give_back` meets its contract: what is left to give back decides. Assumes nothing.
-use mathlib.Core.Logic.{⊎_elim}
 use Prim.Native.Nat.{◌-◌}
 use Rattle.entries.specs.MarkLaws.{GiveLoop, gives, give_none}
 use borrow.Author.Rules.{rules}
+use Rattle.entries.proofs.marks.give_back.Lts.{then-marks-i, else-marks-i}
 use Rattle.entries.proofs.marks.give_back.Statement.{statement}
 use Rattle.entries.proofs.marks.give_back.Tie as tie
 
@@ -22,5 +22,5 @@ give_back_spec =
     (λ c κs. search gives)
     (λ c. search gives)
     (λ c. search gives)
-    (λ c. ⊎_elim (λ w. search gives) (λ w. search gives) c.if2.branch)
+    (λ c. elim c.if-marks-i.branch [ then-marks-i w ↦ search gives | else-marks-i w ↦ search gives ])
     (λ c. search gives))

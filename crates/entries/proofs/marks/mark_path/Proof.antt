@@ -2,7 +2,6 @@
 use Prim.Native.Nat.{◌-◌}
 use mathlib.Core.Bool.{false}
 use mathlib.Core.List.{map}
-use mathlib.Core.Logic.{⊎_elim}
 use lib.ListN.{replicate}
 use Rattle.lists.specs.ByteLoopLaws.{FillLoop, Fills-of}
 use Rattle.rules.specs.Tables.{is_entry}
@@ -10,6 +9,7 @@ use Rattle.rows.specs.Blank.{blank_entry}
 use Rattle.rows.specs.EntryLaws.{not_entry}
 use Rattle.entries.specs.MarkLaws.{row_marked, row_unmarked}
 use borrow.Author.Rules.{rules}
+use Rattle.entries.proofs.marks.mark_path.Lts.{then-entries-i, else-entries-i}
 use Rattle.entries.proofs.marks.mark_path.Statement.{statement}
 use Rattle.entries.proofs.marks.mark_path.Tie as tie
 
@@ -28,5 +28,5 @@ mark_path_spec =
     (λ c. search Fills-of)
     (λ c. search Fills-of)
     (λ c. search Fills-of)
-    (λ c. ⊎_elim (λ w. search (row_marked blank_entry, rules)) (λ w. search (row_unmarked blank_entry, not_entry, rules)) c.if1.branch)
+    (λ c. elim c.if-entries-i.branch [ then-entries-i w ↦ search (row_marked blank_entry, rules) | else-entries-i w ↦ search (row_unmarked blank_entry, not_entry, rules) ])
     (λ c. search Fills-of))

@@ -9,6 +9,7 @@ use Rattle.entries.proofs.CountLaws.{CountLoop, counts-part}
 use Rattle.entries.proofs.PathLaws.{lent-paths}
 use Rattle.entries.proofs.FlagLaws.{SeekLoop, seek_start, seek_found, seek_past, seek_unread, seek_size, new_counted, known_skipped}
 use borrow.Author.Rules.{rules}
+use Rattle.entries.proofs.stores.count_new.Lts.{then-not-there, then-marks-j, else-not-there, else-marks-j}
 use Rattle.entries.proofs.stores.count_new.Statement.{statement}
 use Rattle.entries.proofs.stores.count_new.Tie as tie
 
@@ -35,9 +36,9 @@ count_new_spec =
     (λ c κs. search rules)
     (λ c. search rules)
     (λ c. search rules)
-    (λ c. ⊎_elim (λ w. search (seek_found, rules)) (λ v. ⊎_elim (λ w. search (seek_past, rules)) (λ w. search (seek_unread, rules)) v) c.if1.branch)
+    (λ c. elim c.if-marks-j.branch [ then-marks-j w ↦ search (seek_found, rules) | else-marks-j w ↦ λ v. ⊎_elim (search (seek_past, rules)) (λ w. search (seek_unread, rules)) v ])
     (λ c. search counts-part)
     (λ c. search counts-part)
     (λ c. search counts-part)
-    (λ c. ⊎_elim (λ w. search (new_counted, rules)) (λ w. search (known_skipped, rules)) c.if3.branch)
+    (λ c. elim c.if-not-there.branch [ then-not-there w ↦ search (new_counted, rules) | else-not-there w ↦ search (known_skipped, rules) ])
     (λ c. search counts-part))

@@ -10,6 +10,7 @@ use Rattle.rows.specs.Blank.{blank_entry}
 use Rattle.entries.specs.MarkLaws.{row_marked, row_unmarked, not_replaced}
 use Rattle.entries.proofs.PutKeyLaws.{not_keyed}
 use borrow.Author.Rules.{rules}
+use Rattle.entries.proofs.stores.mark_replaced.Lts.{then-entries-i, else-entries-i}
 use Rattle.entries.proofs.stores.mark_replaced.Statement.{statement}
 use Rattle.entries.proofs.stores.mark_replaced.Tie as tie
 
@@ -31,5 +32,5 @@ mark_replaced_spec =
     (λ c. search Fills-of)
     (λ c. search Fills-of)
     (λ c. search Fills-of)
-    (λ c. ⊎_elim (λ w. search (row_marked blank_entry, rules)) (λ v. ⊎_elim (λ w. search (row_unmarked blank_entry, not_keyed, rules)) (λ w. search (row_unmarked blank_entry, not_replaced, rules)) v) c.if1.branch)
+    (λ c. elim c.if-entries-i.branch [ then-entries-i w ↦ search (row_marked blank_entry, rules) | else-entries-i w ↦ λ v. ⊎_elim (search (row_unmarked blank_entry, not_keyed, rules)) (λ w. search (row_unmarked blank_entry, not_replaced, rules)) v ])
     (λ c. search Fills-of))

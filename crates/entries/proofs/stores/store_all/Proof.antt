@@ -54,5 +54,5 @@ store_all_spec =
     ⊎_elim
     (λ w. record { left = search (store_put, takes_row); unmarked = search unmarked_set })
     (λ w. record { left = search (store_none, takes_row); unmarked = search unmarked_kept })
-    c.if3.branch)
+    c.if-to-lt64.branch)
     (λ c. search stores))

@@ -2,7 +2,7 @@
 use mathlib.Core.Logic.{⊎_elim}
 use Prim.Native.Nat.{◌-◌}
 use Rattle.rules.specs.Fresh.{fresh_token}
-use Rattle.rules.specs.Laws.ClearLoops.{ClearLoop, clears}
+use Rattle.rules.proofs.Laws.ClearLoops.{ClearLoop, clears}
 use Rattle.epochs.specs.Gone.{token_gone}
 use Rattle.epochs.proofs.collect.clear_tokens.Statement.{statement}
 use Rattle.epochs.proofs.collect.clear_tokens.Tie as tie

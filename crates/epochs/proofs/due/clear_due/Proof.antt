@@ -3,7 +3,7 @@ use mathlib.Core.Logic.{⊎_elim}
 use Prim.Native.Nat.{◌-◌}
 use Rattle.rules.specs.Fresh.{fresh_volume}
 use Rattle.rules.specs.Advance.{is_due}
-use Rattle.rules.specs.Laws.ClearLoops.{ClearLoop, clears}
+use Rattle.rules.proofs.Laws.ClearLoops.{ClearLoop, clears}
 use Rattle.epochs.proofs.due.clear_due.Statement.{statement}
 use Rattle.epochs.proofs.due.clear_due.Tie as tie
 

@@ -3,7 +3,7 @@ use mathlib.Core.Logic.{⊎_elim}
 use Prim.Native.Nat.{◌-◌}
 use Rattle.rules.specs.Fresh.{fresh_relay}
 use Rattle.rules.specs.Relays.{is_dead}
-use Rattle.rules.specs.Laws.ClearLoops.{ClearLoop, clears}
+use Rattle.rules.proofs.Laws.ClearLoops.{ClearLoop, clears}
 use Rattle.epochs.proofs.leave.relays_left.Statement.{statement}
 use Rattle.epochs.proofs.leave.relays_left.Tie as tie
 

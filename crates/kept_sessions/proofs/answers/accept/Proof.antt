@@ -8,4 +8,4 @@ accept_spec =
     tie.close
     (tie.spec
     (λ c κs. search rules)
-    (λ c j t. rw c.success.ensures))
+    (λ c j t. rw c.success-answer.ensures))

@@ -8,4 +8,4 @@ refuse_spec =
     tie.close
     (tie.spec
     (λ c κs. search rules)
-    (λ c j t. rw c.refusal.ensures))
+    (λ c j t. rw c.refusal-answer.ensures))

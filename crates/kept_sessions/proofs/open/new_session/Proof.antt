@@ -8,4 +8,4 @@ new_session_spec =
     tie.close
     (tie.spec
     (λ c κs. search rules)
-    (λ c. rw c.fresh-kept-put.ensures))
+    (λ c. rw c.fresh_kept_put-put.ensures))

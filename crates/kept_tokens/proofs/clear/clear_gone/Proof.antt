@@ -1,10 +1,10 @@
 -- `clear::clear_gone` meets its contract: after i turns the first i rows are cleared, and the others are as they came. Assumes nothing.
 use Prim.Native.Nat.{◌-◌}
-use mathlib.Core.Logic.{⊎_elim}
-use Rattle.rules.specs.Laws.ClearLoops.{ClearLoop, clears}
+use Rattle.rules.proofs.Laws.ClearLoops.{ClearLoop, clears}
 use Rattle.kept.specs.Kept.{fresh_kept_token}
 use Rattle.kept_tokens.specs.KeptTokens.{kept_gone}
 use Rattle.kept_tokens.specs.KeptTokenLaws.{gone_in}
+use Rattle.kept_tokens.proofs.clear.clear_gone.Lts.{else-is_kept_gone, then-is_kept_gone}
 use Rattle.kept_tokens.proofs.clear.clear_gone.Statement.{statement}
 use Rattle.kept_tokens.proofs.clear.clear_gone.Tie as tie
 
@@ -25,5 +25,5 @@ clear_gone_spec =
     (λ c. search clears)
     (λ c. search clears)
     (λ c. search clears)
-    (λ c. ⊎_elim (λ w. search clears) (λ w. search clears) c.if1.branch)
+    (λ c. elim c.if-is_kept_gone.branch [ then-is_kept_gone w ↦ search clears | else-is_kept_gone w ↦ search clears ])
     (λ c j. search (gone_in, clears)))

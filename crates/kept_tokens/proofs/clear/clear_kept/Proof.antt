@@ -1,8 +1,8 @@
 -- `clear::clear_kept` meets its contract: the rows of the set, one after another. Assumes nothing.
 use Prim.Native.Nat.{◌-◌}
-use mathlib.Core.Logic.{⊎_elim}
 use Rattle.kept_tokens.specs.KeptTokenLaws.{cleared_in_lem}
 use Rattle.kept_tokens.proofs.ClearLaws.{ClearSetLoop, clears, clear_row, keep_row}
+use Rattle.kept_tokens.proofs.clear.clear_kept.Lts.{else-in_set, then-in_set}
 use Rattle.kept_tokens.proofs.clear.clear_kept.Statement.{statement}
 use Rattle.kept_tokens.proofs.clear.clear_kept.Tie as tie
 
@@ -19,5 +19,5 @@ clear_kept_spec =
     (λ c. search clears)
     (λ c. search clears)
     (λ c. search clears)
-    (λ c. ⊎_elim (λ w. search clear_row) (λ w. search keep_row) c.if1.branch)
+    (λ c. elim c.if-in_set.branch [ then-in_set w ↦ search clear_row | else-in_set w ↦ search keep_row ])
     (λ c. (search clears, λ j. search (cleared_in_lem, clears))))

@@ -1,10 +1,10 @@
 -- `clear::drop_kept` meets its contract: after i turns the first i rows are cleared, and the others are as they came. Assumes nothing.
 use Prim.Native.Nat.{◌-◌}
-use mathlib.Core.Logic.{⊎_elim}
-use Rattle.rules.specs.Laws.ClearLoops.{ClearLoop, clears}
+use Rattle.rules.proofs.Laws.ClearLoops.{ClearLoop, clears}
 use Rattle.kept.specs.Kept.{fresh_kept_token}
 use Rattle.kept_tokens.specs.KeptTokens.{is_kept_of}
 use Rattle.kept_tokens.specs.KeptTokenLaws.{dropped_in}
+use Rattle.kept_tokens.proofs.clear.drop_kept.Lts.{else-is_kept_of, then-is_kept_of}
 use Rattle.kept_tokens.proofs.clear.drop_kept.Statement.{statement}
 use Rattle.kept_tokens.proofs.clear.drop_kept.Tie as tie
 
@@ -25,5 +25,5 @@ drop_kept_spec =
     (λ c. search clears)
     (λ c. search clears)
     (λ c. search clears)
-    (λ c. ⊎_elim (λ w. search clears) (λ w. search clears) c.if1.branch)
+    (λ c. elim c.if-is_kept_of.branch [ then-is_kept_of w ↦ search clears | else-is_kept_of w ↦ search clears ])
     (λ c j. search (dropped_in, clears)))

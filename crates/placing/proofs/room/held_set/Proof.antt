@@ -4,7 +4,7 @@ use borrow.Author.Rules.{rules}
 use Rattle.placing.specs.Room.{has_shard}
 use Rattle.placing.proofs.SetLaws.{SetLoop, sets}
 use Rattle.placing.proofs.RoomLaws.{held_adds, held_skips, placed}
-use Rattle.placing.proofs.room.held_set.Lts.{then-any_number, else-any_number}
+use Rattle.placing.proofs.room.held_set.Lts.{else-any_number, then-any_number}
 use Rattle.placing.proofs.room.held_set.Statement.{statement}
 use Rattle.placing.proofs.room.held_set.Tie as tie
 

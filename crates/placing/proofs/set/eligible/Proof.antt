@@ -2,7 +2,7 @@
 use Prim.Native.Nat.{◌-◌}
 use Rattle.rules.specs.Relays.{is_eligible, eligible_set}
 use Rattle.placing.proofs.SetLaws.{SetLoop, sets}
-use Rattle.placing.proofs.set.eligible.Lts.{then-is_eligible, else-is_eligible}
+use Rattle.placing.proofs.set.eligible.Lts.{else-is_eligible, then-is_eligible}
 use Rattle.placing.proofs.set.eligible.Statement.{statement}
 use Rattle.placing.proofs.set.eligible.Tie as tie
 

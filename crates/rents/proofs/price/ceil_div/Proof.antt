@@ -1,5 +1,5 @@
 -- `price::ceil_div` meets its contract: the whole quotient, and one more where there is a remainder. Assumes nothing.
-use Rattle.rules.specs.Laws.CeilLaws.{ceils}
+use Rattle.rules.proofs.Laws.CeilLaws.{ceils}
 use borrow.Author.Rules.{rules}
 use Rattle.rents.proofs.price.ceil_div.Statement.{statement}
 use Rattle.rents.proofs.price.ceil_div.Tie as tie

@@ -1,5 +1,5 @@
 -- `shards::shard_size` meets its contract: the whole quotient, and one more where there is a remainder. Assumes nothing.
-use Rattle.rules.specs.Laws.CeilLaws.{ceils}
+use Rattle.rules.proofs.Laws.CeilLaws.{ceils}
 use borrow.Author.Rules.{rules}
 use Rattle.rows.proofs.shards.shard_size.Statement.{statement}
 use Rattle.rows.proofs.shards.shard_size.Tie as tie

@@ -2,7 +2,7 @@
 use Prim.Native.Nat.{◌-◌}
 use Rattle.rules.specs.Fresh.{fresh_token}
 use Rattle.rules.specs.VolumeCalls.{is_token_of}
-use Rattle.rules.specs.Laws.ClearLoops.{ClearLoop, clears}
+use Rattle.rules.proofs.Laws.ClearLoops.{ClearLoop, clears}
 use Rattle.volumes.proofs.delete.drop_tokens.Lts.{then-is_token_of, else-is_token_of}
 use Rattle.volumes.proofs.delete.drop_tokens.Statement.{statement}
 use Rattle.volumes.proofs.delete.drop_tokens.Tie as tie
