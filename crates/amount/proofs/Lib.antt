@@ -4,3 +4,4 @@ pub mod DecimalLoops
 pub mod CountAnswers
 pub mod ReadAnswers
 pub mod WriteAnswers
+pub mod RoundTrip

@@ -11,7 +11,7 @@ use Rattle.lists.specs.OverLaws.{over_none, over_last, length_over, over_over}
 use Rattle.amount.specs.declared.Cap.{Cap}
 use Rattle.amount.specs.declared.Cap.TheVariants.{Unlimited, Bytes}
 use Rattle.journal.specs.Numbers.{bytes_of}
-use Rattle.journal.specs.NumberLaws.{length_bytes_of}
+use Rattle.journal.proofs.NumberLaws.{length_bytes_of}
 use Rattle.lists.specs.Bytes.{over}
 use Rattle.desk_bytes.specs.Layout.{cap_bytes}
 use Rattle.desk_bytes.specs.Written.{Wrote}

@@ -21,7 +21,7 @@ use Rattle.rules.specs.declared.Tables.{Tables}
 use Rattle.rules.specs.declared.Desk.{Desk}
 use Rattle.rules.specs.Limits.{volume_rows, entry_rows, token_rows, relay_rows, slot_rows, put_rows, shard_places}
 use Rattle.journal.specs.Numbers.{bytes_of}
-use Rattle.journal.specs.NumberLaws.{length_bytes_of}
+use Rattle.journal.proofs.NumberLaws.{length_bytes_of}
 use Rattle.desk_bytes.specs.Layout.{text_bytes_all, text_length, name_bytes_all, name_length, hash_length, relay_no_bytes, cap_bytes, cap_length, placement_bytes, placement_length, volume_bytes, volume_length, entry_bytes, entry_length, scope_bytes, scope_length, token_bytes, token_length, relay_bytes, relay_length, put_bytes, put_length, session_bytes, session_length, tables_bytes, tables_length, desk_bytes, desk_length}
 
 -- ---- the totals

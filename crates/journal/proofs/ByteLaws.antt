@@ -16,9 +16,9 @@ use mir.Syntax.{w8, w64}
 use mir.Val.{Fits}
 use Rattle.journal.specs.declared.Number.TheVariants.{Value, Cut}
 use Rattle.journal.specs.Numbers.{number_of}
-use Rattle.journal.specs.NumberLaws.{number_of_snoc, number_of_lt}
+use Rattle.journal.proofs.NumberLaws.{number_of_snoc, number_of_lt}
 use Rattle.journal.specs.Fields.{decode_number, part, nothing, found}
-use Rattle.journal.specs.FieldLaws.{bytes_take, bytes_known}
+use Rattle.journal.proofs.FieldLaws.{bytes_take, bytes_known}
 use Rattle.journal.specs.Table.{number_at, as_answer}
 
 -- the number of fewer than eight bytes of a list has room for one more byte

@@ -23,11 +23,11 @@ use Rattle.journal.specs.declared.Number.{Number}
 use Rattle.journal.specs.declared.Number.TheVariants.{Value, Cut}
 use Rattle.journal.specs.declared.Step.TheVariants.{Next, Refused}
 use Rattle.journal.specs.Fields.{text, bytes, cap, mode, nothing, found, decode_number, decode, encode}
-use Rattle.journal.specs.FieldLaws.{bytes_drop}
+use Rattle.journal.proofs.FieldLaws.{bytes_drop}
 use Rattle.journal.specs.Records.{Version, v01, text_width, text_most}
 use Rattle.journal.specs.Places.{place}
 use Rattle.journal.specs.Table.{number_at, width_of, place_number, step_number, step_to}
-use Rattle.journal.specs.FieldLaws.{bytes_known}
+use Rattle.journal.proofs.FieldLaws.{bytes_known}
 use Rattle.journal.proofs.StepLaws.{Valued, valued, not_there, valued_lt, step_found, step_nothing, part_none, part_some, text_cut, text_long, text_short, with_text, step_text, mode_cut, mode_at, length_mode, cap_cut, cap_at, length_unlimited, length_count}
 
 -- ---- an account and a hash: 32 bytes

@@ -21,7 +21,7 @@ use Rattle.journal.specs.Records.{Version, v01, v02, version_numbered}
 use Rattle.journal.specs.Places.{RECORD, read_at, padded32}
 use Rattle.journal.specs.Journal.{journal_most, TOO_LARGE, VERSION, framed, start_of, first_byte, version_start, on_body, on_reading, next_in}
 use Rattle.journal.specs.Table.{number_at}
-use Rattle.journal.specs.FieldLaws.{bytes_known}
+use Rattle.journal.proofs.FieldLaws.{bytes_known}
 use Rattle.journal.proofs.StepLaws.{Valued, valued, valued_lt, not_there, text_cut, text_short, text_full}
 
 -- ---- the start of a journal, as the code answers

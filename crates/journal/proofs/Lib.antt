@@ -5,3 +5,10 @@ pub mod FieldReads
 pub mod ReadLaws
 pub mod FrameLaws
 pub mod PartLaws
+pub mod NumberLaws
+pub mod FieldLaws
+pub mod JournalLaws
+pub mod PlaceLaws
+pub mod RecordLaws
+pub mod WriteLaws
+pub mod Theorems

@@ -21,14 +21,14 @@ use Rattle.journal.specs.declared.Reading.TheVariants as answer
 use Rattle.journal.specs.declared.Step.{Step}
 use Rattle.journal.specs.declared.Step.TheVariants.{Next, Refused}
 use Rattle.journal.specs.Fields.{Decoded, nothing, found, on_found, in_front, decode, decode_all, encode, ValueOf, ValuesOf}
-use Rattle.journal.specs.FieldLaws.{decode_taken, bytes_drop}
+use Rattle.journal.proofs.FieldLaws.{decode_taken, bytes_drop}
 use Rattle.journal.specs.Records.{Version, format_of, forms_of, fields_of, kinds, kind_among, whole, parse, parse_kind}
 use Rattle.journal.specs.Places.{RECORD, blank, place, reading_of, read_at}
-use Rattle.journal.specs.PlaceLaws.{past}
+use Rattle.journal.proofs.PlaceLaws.{past}
 use Rattle.journal.specs.Table.{named, padded, fields_most, step_to, ending, read_on}
 use Rattle.journal.specs.declared.Named.{Named}
 use Rattle.journal.specs.declared.Named.TheVariants as a
-use Rattle.journal.specs.FieldLaws.{bytes_known}
+use Rattle.journal.proofs.FieldLaws.{bytes_known}
 use Rattle.journal.specs.TableLaws.{named_kind, named_none}
 
 -- what the first field of a list leaves to the others

@@ -19,9 +19,9 @@ use Rattle.journal.specs.declared.Number.TheVariants.{Value, Cut}
 use Rattle.journal.specs.declared.Step.{Step}
 use Rattle.journal.specs.declared.Step.TheVariants.{Next, Refused}
 use Rattle.journal.specs.Numbers.{bytes_of, number_of}
-use Rattle.journal.specs.NumberLaws.{length_bytes_of, number_of_lt}
+use Rattle.journal.proofs.NumberLaws.{length_bytes_of, number_of_lt}
 use Rattle.journal.specs.Fields.{text, cap, mode, Decoded, nothing, found, on_found, part, as_text, as_cap, as_mode, decode_number, decode_text, decode, encode, ValueOf}
-use Rattle.journal.specs.FieldLaws.{bytes_take}
+use Rattle.journal.proofs.FieldLaws.{bytes_take}
 use Rattle.journal.specs.Records.{Version, v01, text_width, text_most, format_of}
 use Rattle.journal.specs.Places.{place}
 use Rattle.journal.specs.Table.{number_at, as_answer, width_of, step_number, step_to}

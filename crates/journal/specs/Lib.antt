@@ -1,17 +1,10 @@
 pub mod Numbers
-pub mod NumberLaws
 pub mod Fields
-pub mod FieldLaws
 pub mod Records
 pub mod VersionLaws
 pub mod LongerTexts
-pub mod RecordLaws
 pub mod Places
-pub mod PlaceLaws
 pub mod Table
 pub mod TableLaws
 pub mod Journal
-pub mod JournalLaws
 pub mod Writes
-pub mod WriteLaws
-pub mod Theorems

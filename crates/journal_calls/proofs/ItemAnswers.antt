@@ -15,7 +15,7 @@ use Rattle.journal.specs.declared.Kind.TheVariants as kind
 use Rattle.journal.specs.declared.Record.{Record}
 use Rattle.journal.specs.declared.Next.{Next}
 use Rattle.journal.specs.declared.Next.TheVariants.{End, Whole, Stop}
-use Rattle.journal.specs.FieldLaws.{bytes_known}
+use Rattle.journal.proofs.FieldLaws.{bytes_known}
 use Rattle.journal.specs.declared.Version.{Version}
 use Rattle.journal.specs.Places.{blank}
 use Rattle.journal.specs.Journal.{next_in}

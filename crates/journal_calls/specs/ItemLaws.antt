@@ -19,7 +19,7 @@ use Rattle.journal.specs.declared.Next.TheVariants.{End, Whole, Stop}
 use Rattle.journal.specs.declared.Version.{Version}
 use Rattle.journal.specs.Records.{v01}
 use Rattle.journal.specs.Places.{call_at}
-use Rattle.journal.specs.PlaceLaws.{call_alike}
+use Rattle.journal.proofs.PlaceLaws.{call_alike}
 use Rattle.journal.specs.Journal.{stopped, ended, after, records, next_in}
 use Rattle.journal_calls.specs.declared.SlotCall.TheVariants as slot
 use Rattle.journal_calls.specs.declared.Group.{Group}

@@ -8,13 +8,13 @@ use Rattle.journal.specs.declared.Reading.TheVariants.{Fits, Refused}
 use Rattle.journal.specs.declared.Next.{Next}
 use Rattle.journal.specs.declared.Next.TheVariants.{End, Whole, Stop}
 use Rattle.journal.specs.Fields.{Decoded, nothing, found}
-use Rattle.journal.specs.FieldLaws.{bytes_drop}
+use Rattle.journal.proofs.FieldLaws.{bytes_drop}
 use Rattle.journal.specs.declared.Version.{Version}
 use Rattle.journal.specs.Records.{parse}
 use Rattle.journal.specs.Places.{read_at, call_at}
 use Rattle.journal.specs.Journal.{stopped, ended, after, framed, records, on_reading, on_body, next_in, after_next}
-use Rattle.journal.specs.JournalLaws.{apart}
-use Rattle.journal.specs.Theorems.{next_gives_the_contents}
+use Rattle.journal.proofs.JournalLaws.{apart}
+use Rattle.journal.proofs.Theorems.{next_gives_the_contents}
 
 -- a whole record has 3 bytes or more with its length, and they are there
 pub record Sized (l : List ℕ) (n : ℕ) : Type 0 where

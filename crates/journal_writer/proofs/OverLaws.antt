@@ -8,7 +8,7 @@ use lib.ListN.{length, set, length-set}
 use Rattle.lists.specs.Bytes.{over}
 use Rattle.lists.specs.OverLaws.{over_none, over_last, over_over}
 use Rattle.journal.specs.Numbers.{bytes_of}
-use Rattle.journal.specs.NumberLaws.{length_bytes_of}
+use Rattle.journal.proofs.NumberLaws.{length_bytes_of}
 
 -- a turn of the loop that writes a number from its last byte
 pub number_turn : (at j n : ℕ) (buf : List ℕ) → at + j < length buf → over at (bytes_of j (n / 256)) (set buf (at + j) (n % 256)) ≡ over at (bytes_of (suc j) n) buf

@@ -13,7 +13,7 @@ use Rattle.journal.specs.declared.Field.{Field}
 use Rattle.journal.specs.declared.Field.TheVariants as its
 use Rattle.journal.specs.declared.Fields.{Fields}
 use Rattle.journal.specs.Numbers.{bytes_of}
-use Rattle.journal.specs.NumberLaws.{length_bytes_of}
+use Rattle.journal.proofs.NumberLaws.{length_bytes_of}
 use Rattle.journal.specs.Fields.{cap_bytes}
 use Rattle.journal.specs.declared.Version.{Version}
 use Rattle.journal.specs.Records.{text_width}

@@ -20,7 +20,7 @@ use Rattle.journal.specs.declared.Fields.{Fields}
 use Rattle.journal.specs.declared.Size.{Size}
 use Rattle.journal.specs.declared.Size.TheVariants.{Bytes, Bad}
 use Rattle.journal.specs.Numbers.{bytes_of}
-use Rattle.journal.specs.NumberLaws.{length_bytes_of}
+use Rattle.journal.proofs.NumberLaws.{length_bytes_of}
 use Rattle.journal.specs.Fields.{encode, cap_bytes}
 use Rattle.journal.specs.declared.Version.{Version}
 use Rattle.journal.specs.Records.{text_width, text_most}

@@ -27,11 +27,11 @@ use Rattle.journal.specs.declared.Size.TheVariants.{Bytes, Bad}
 use Rattle.journal.specs.declared.Written.{Written}
 use Rattle.journal.specs.Numbers.{bytes_of}
 use Rattle.lists.specs.BoolLaws.{and_left, and_right}
-use Rattle.journal.specs.NumberLaws.{length_bytes_of}
+use Rattle.journal.proofs.NumberLaws.{length_bytes_of}
 use Rattle.journal.specs.Fields.{encode, encode_all}
 use Rattle.journal.specs.declared.Version.{Version}
 use Rattle.journal.specs.Records.{fields_of, forms_of, kinds, kind_number, kind_among, record_bytes}
-use Rattle.journal.specs.RecordLaws.{kind_of_number}
+use Rattle.journal.proofs.RecordLaws.{kind_of_number}
 use Rattle.journal.specs.Table.{named, padded}
 use Rattle.journal.specs.Writes.{values_in, givable, givable_all, in_frame, kind_in, record_in, over, answer_of, buffer_of, field_bytes, fields_bytes, fields_size, IsSized}
 use Rattle.lists.specs.OverLaws.{over_none, over_over, length_over}

@@ -17,7 +17,7 @@ use Rattle.journal.specs.declared.Version.{Version}
 use Rattle.journal.specs.Records.{version_numbered, parse, read_record}
 use Rattle.journal.specs.Places.{RECORD}
 use Rattle.journal.specs.Journal.{journal_most, TOO_LARGE, VERSION, framed, stopped, on_call, on_frame, records_in, records, on_version, versioned, contents}
-use Rattle.journal.specs.JournalLaws.{records_step, apart}
+use Rattle.journal.proofs.JournalLaws.{records_step, apart}
 use Rattle.printed.specs.Transcript.{first_line, record_line, program_rate, transcript}
 use Rattle.printed.specs.TranscriptLaws.{printed_from, from_start, from_call, from_stop, from_end}
 use Rattle.printed.specs.LineLaws.{line_most, stop_most, end_most}

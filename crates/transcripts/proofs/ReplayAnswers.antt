@@ -17,13 +17,13 @@ use Rattle.rules.specs.declared.Desk.{Desk}
 use Rattle.rules.specs.Fresh.{fresh_desk}
 use Rattle.rules.specs.Calls.{run}
 use Rattle.journal.specs.declared.Written.{Written}
-use Rattle.journal.specs.FieldLaws.{bytes_drop}
+use Rattle.journal.proofs.FieldLaws.{bytes_drop}
 use Rattle.journal.specs.declared.Version.{Version}
 use Rattle.journal.specs.declared.Start.{Start}
 use Rattle.journal.specs.declared.Start.TheVariants.{Records, Fault}
 use Rattle.journal.specs.Journal.{journal_most, TOO_LARGE, VERSION, stop, Contents, stopped, records, contents, first_byte, start_of}
-use Rattle.journal.specs.Theorems.{start_gives_the_contents}
-use Rattle.journal.specs.FieldLaws.{bytes_known}
+use Rattle.journal.proofs.Theorems.{start_gives_the_contents}
+use Rattle.journal.proofs.FieldLaws.{bytes_known}
 use Rattle.transcripts.specs.declared.Replayed.{Replayed}
 use Rattle.printed.specs.Transcript.{first_line, last_line, program_rate, transcript}
 use Rattle.printed.specs.TranscriptLaws.{printed_from, from_start, from_stop}

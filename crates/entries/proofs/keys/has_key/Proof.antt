@@ -3,7 +3,7 @@ use Prim.Native.Nat.{◌-◌}
 use Rattle.entries.specs.Keys.{is_key}
 use Rattle.entries.proofs.FlagLaws.{FlagLoop}
 use Rattle.entries.proofs.KeyLaws.{has-keys}
-use Rattle.entries.proofs.keys.has_key.Lts.{then-keys-i, else-keys-i}
+use Rattle.entries.proofs.keys.has_key.Lts.{else-keys-i, then-keys-i}
 use Rattle.entries.proofs.keys.has_key.Statement.{statement}
 use Rattle.entries.proofs.keys.has_key.Tie as tie
 

@@ -3,7 +3,7 @@ use Prim.Native.Nat.{◌-◌}
 use Rattle.lists.specs.ByteLoopLaws.{FillLoop}
 use Rattle.entries.specs.Marks.{cleared_by}
 use Rattle.entries.specs.MarkLaws.{clearing}
-use Rattle.entries.proofs.marks.clear_marked.Lts.{then-marks-i, else-marks-i}
+use Rattle.entries.proofs.marks.clear_marked.Lts.{else-marks-i, then-marks-i}
 use Rattle.entries.proofs.marks.clear_marked.Statement.{statement}
 use Rattle.entries.proofs.marks.clear_marked.Tie as tie
 

@@ -2,7 +2,7 @@
 use Prim.Native.Nat.{◌-◌}
 use Rattle.entries.specs.MarkLaws.{GiveLoop, gives, give_none}
 use borrow.Author.Rules.{rules}
-use Rattle.entries.proofs.marks.give_back.Lts.{then-marks-i, else-marks-i}
+use Rattle.entries.proofs.marks.give_back.Lts.{else-marks-i, then-marks-i}
 use Rattle.entries.proofs.marks.give_back.Statement.{statement}
 use Rattle.entries.proofs.marks.give_back.Tie as tie
 

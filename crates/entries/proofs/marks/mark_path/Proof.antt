@@ -9,7 +9,7 @@ use Rattle.rows.specs.Blank.{blank_entry}
 use Rattle.rows.specs.EntryLaws.{not_entry}
 use Rattle.entries.specs.MarkLaws.{row_marked, row_unmarked}
 use borrow.Author.Rules.{rules}
-use Rattle.entries.proofs.marks.mark_path.Lts.{then-entries-i, else-entries-i}
+use Rattle.entries.proofs.marks.mark_path.Lts.{else-entries-i, then-entries-i}
 use Rattle.entries.proofs.marks.mark_path.Statement.{statement}
 use Rattle.entries.proofs.marks.mark_path.Tie as tie
 

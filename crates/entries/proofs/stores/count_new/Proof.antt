@@ -9,7 +9,7 @@ use Rattle.entries.proofs.CountLaws.{CountLoop, counts-part}
 use Rattle.entries.proofs.PathLaws.{lent-paths}
 use Rattle.entries.proofs.FlagLaws.{SeekLoop, seek_start, seek_found, seek_past, seek_unread, seek_size, new_counted, known_skipped}
 use borrow.Author.Rules.{rules}
-use Rattle.entries.proofs.stores.count_new.Lts.{then-not-there, then-marks-j, else-not-there, else-marks-j}
+use Rattle.entries.proofs.stores.count_new.Lts.{else-not-there, then-not-there}
 use Rattle.entries.proofs.stores.count_new.Statement.{statement}
 use Rattle.entries.proofs.stores.count_new.Tie as tie
 

@@ -12,12 +12,12 @@ use Rattle.journal.specs.declared.Field.TheVariants as its
 use Rattle.journal.specs.declared.Fields.{Fields}
 use Rattle.journal.specs.Numbers.{bytes_of}
 use Rattle.lists.specs.BoolLaws.{and_left, and_right}
-use Rattle.journal.specs.NumberLaws.{length_bytes_of}
+use Rattle.journal.proofs.NumberLaws.{length_bytes_of}
 use Rattle.journal.specs.Fields.{text, found, encode, encode_all, fits, fits_all, cap_fits, cap_bytes}
-use Rattle.journal.specs.FieldLaws.{decode_encode}
+use Rattle.journal.proofs.FieldLaws.{decode_encode}
 use Rattle.journal.specs.Records.{Version, text_width, text_most, format_of, forms_of, fields_of, call_of, call_parsed, read_record, record_bytes}
 use Rattle.journal.specs.VersionLaws.{width_most, text_most_lem, text_counted}
-use Rattle.journal.specs.RecordLaws.{parse_record}
+use Rattle.journal.proofs.RecordLaws.{parse_record}
 use Rattle.journal.specs.Journal.{framed}
 use Rattle.journal.specs.Writes.{value_in, values_in, givable, givable_all, in_frame}
 

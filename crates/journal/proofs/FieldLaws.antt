@@ -10,7 +10,7 @@ use Rattle.rules.specs.declared.Mode.TheVariants.{Read, Write, Both}
 use Rattle.rules.specs.Scope.{mode_number}
 use Rattle.journal.specs.Numbers.{bytes_of, number_of}
 use Rattle.lists.specs.BoolLaws.{and_left, and_right}
-use Rattle.journal.specs.NumberLaws.{length_bytes_of, number_bytes, number_of_lt, bytes_number}
+use Rattle.journal.proofs.NumberLaws.{length_bytes_of, number_bytes, number_of_lt, bytes_number}
 use Rattle.journal.specs.Fields.{Format, number, text, bytes, cap, mode, ValueOf, ValuesOf, Decoded, nothing, found, on_found, in_front, part, as_number, as_text, as_bytes, as_cap, as_mode, decode_number, decode_text, decode, decode_all, cap_bytes, encode, encode_all, cap_fits, fits, fits_all}
 
 -- ---- what is written reads back

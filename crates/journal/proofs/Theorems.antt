@@ -8,14 +8,14 @@ use Rattle.journal.specs.declared.Kind.{Kind}
 use Rattle.journal.specs.declared.Fields.{Fields}
 use Rattle.journal.specs.Fields.{found}
 use Rattle.journal.specs.Records.{Version, v01, v02, version_numbered, fields_of, kind_numbered, call_of, kind_of, values_of, parse, call_parsed, read_record, record_bytes, write_record, writable}
-use Rattle.journal.specs.RecordLaws.{call_of_values, parse_record, parse_given, call_parsed_lem, record_of_call, one_kind}
+use Rattle.journal.proofs.RecordLaws.{call_of_values, parse_record, parse_given, call_parsed_lem, record_of_call, one_kind}
 use Rattle.journal.specs.Places.{read_at, call_read}
-use Rattle.journal.specs.PlaceLaws.{reading_is_call}
+use Rattle.journal.proofs.PlaceLaws.{reading_is_call}
 use Rattle.journal.specs.Journal.{framed, records, contents, start_of, next_in, after_start, after_next}
-use Rattle.journal.specs.JournalLaws.{start_contents, next_contents}
+use Rattle.journal.proofs.JournalLaws.{start_contents, next_contents}
 use Rattle.journal.specs.Writes.{values_in, givable_all, in_frame, kind_in, record_in, record_for, record_of}
 use Rattle.journal.specs.LongerTexts.{writable_longer}
-use Rattle.journal.specs.WriteLaws.{Sized, frame_found, record_read, given_alike}
+use Rattle.journal.proofs.WriteLaws.{Sized, frame_found, record_read, given_alike}
 
 -- what is written reads back as the same call, for every call that can be written
 pub written_reads_back : (v : Version) (c : Call) → writable v c ≡ true → read_record v (write_record v c) ≡ some c

@@ -11,10 +11,10 @@ use Rattle.journal.specs.declared.Field.TheVariants as its
 use Rattle.journal.specs.declared.Record.{Record}
 use Rattle.journal.specs.Numbers.{bytes_of}
 use Rattle.lists.specs.BoolLaws.{and_left, and_right}
-use Rattle.journal.specs.NumberLaws.{length_bytes_of}
+use Rattle.journal.proofs.NumberLaws.{length_bytes_of}
 use Rattle.journal.specs.Fields.{ValueOf, ValuesOf, encode, encode_all, fits, fits_all}
 use Rattle.journal.specs.Records.{Version, v01, text_width, format_of, forms_of, fields_of, Values, call_of, Parsed, unfit, parsed, parse, call_parsed, read_record, record_bytes}
-use Rattle.journal.specs.RecordLaws.{Given, parse_given}
+use Rattle.journal.proofs.RecordLaws.{Given, parse_given}
 use Rattle.journal.specs.Places.{blank, place, place_all, reading_of, read_at, bytes_at, padded32, value_at, values_at, call_at, call_read}
 
 -- what stands after the bytes that stand at a place

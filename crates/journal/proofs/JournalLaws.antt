@@ -8,11 +8,11 @@ use Rattle.journal.specs.declared.Start.TheVariants.{Fault}
 use Rattle.journal.specs.declared.Reading.{Reading}
 use Rattle.journal.specs.declared.Reading.TheVariants.{Fits, Refused}
 use Rattle.journal.specs.Fields.{Decoded, nothing, found, part, as_number, as_text, decode_number, decode_text, decode, encode, text}
-use Rattle.journal.specs.FieldLaws.{on_found_found, cond_found, bytes_take, bytes_drop, decode_taken}
-use Rattle.journal.specs.NumberLaws.{length_bytes_of}
+use Rattle.journal.proofs.FieldLaws.{on_found_found, cond_found, bytes_take, bytes_drop, decode_taken}
+use Rattle.journal.proofs.NumberLaws.{length_bytes_of}
 use Rattle.journal.specs.Records.{Version, version_numbered, Parsed, unfit, parsed, parse, read_record}
 use Rattle.journal.specs.Places.{RECORD, reading_of, read_at, call_at}
-use Rattle.journal.specs.PlaceLaws.{reading_is_call}
+use Rattle.journal.proofs.PlaceLaws.{reading_is_call}
 use Rattle.journal.specs.Journal.{journal_most, TOO_LARGE, Contents, framed, stopped, on_frame, on_call, records_in, records, on_version, versioned, contents, version_start, first_byte, start_of, on_reading, on_body, next_in, after_start, after_next}
 
 -- a part that was found leaves so many bytes fewer

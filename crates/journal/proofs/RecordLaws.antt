@@ -9,7 +9,7 @@ use Rattle.journal.specs.declared.Kind.{Kind}
 use Rattle.journal.specs.declared.Kind.TheVariants.{Advance, Create, Deposit, Delete, Undelete, Grant, Attenuate, Revoke, Open, Stage, Commit, Abandon, Remove, Look, Register, Heartbeat}
 use Rattle.lists.specs.BoolLaws.{and_right}
 use Rattle.journal.specs.Fields.{Decoded, nothing, found, decode_all, encode_all, fits_all}
-use Rattle.journal.specs.FieldLaws.{decode_encode_all, decode_taken_all, TakenAll}
+use Rattle.journal.proofs.FieldLaws.{decode_encode_all, decode_taken_all, TakenAll}
 use Rattle.journal.specs.Records.{Version, fields_of, kind_number, kinds, all_kinds, kind_among, kind_numbered, forms_of, Values, call_of, kind_of, values_of, Parsed, unfit, parsed, whole, parse_kind, parse, call_parsed, read_record, record_bytes, write_record, writable}
 use Rattle.journal.specs.VersionLaws.{kinds_all}
 
