@@ -1,11 +1,11 @@
 -- `held::held_sets` meets its contract: after i turns the sets of the first i entries are stored. Assumes nothing.
-use mathlib.Core.Logic.{⊎_elim}
 use mathlib.Core.List.{map}
 use Prim.Native.Nat.{◌-◌}
 use lib.ListN.{replicate}
 use Rattle.lists.specs.ByteLoopLaws.{FillLoop, Fills-of}
 use Rattle.soundness.specs.Held.{held_set}
 use Rattle.soundness.proofs.HeldLaws.{set_skipped, set_stored}
+use Rattle.soundness.proofs.held.held_sets.Lts.{else-e-ne0, then-e-ne0}
 use Rattle.soundness.proofs.held.held_sets.Statement.{statement}
 use Rattle.soundness.proofs.held.held_sets.Tie as tie
 
@@ -25,5 +25,5 @@ held_sets_spec =
     (λ c. search Fills-of)
     (λ c. search Fills-of)
     (λ c. search Fills-of)
-    (λ c. ⊎_elim (λ w. search set_stored) (λ w. search set_skipped) c.if1.branch)
+    (λ c. elim c.if-e-ne0.branch [ then-e-ne0 w ↦ search set_stored | else-e-ne0 w ↦ search set_skipped ])
     (λ c. search Fills-of))

@@ -18,5 +18,4 @@ rows_by_spec =
     (λ c. search slots-made)
     (λ c. search slots-made)
     (λ c. search slots-made)
-    (λ c. search slots-made)
     (λ c. search slots-made))

@@ -1,6 +1,5 @@
 -- `relay_test::relays_hold` meets its contract: the numbers differ, and at each row the rest decides; before each entry, a relay's sums so far with
 -- those of the rest are the whole. Assumes nothing.
-use mathlib.Core.Logic.{⊎_elim}
 use Prim.Native.Nat.{◌-◌}
 use Rattle.rules.specs.Sound.{sound_relay}
 use Rattle.lists.specs.AnswerLaws.{said_yes}
@@ -10,6 +9,7 @@ use Rattle.soundness.proofs.RelayLaws.{relays_clash, relay_fails, relays_hold}
 use Rattle.soundness.proofs.ShardLaws.{Sized, LoadLoop, load_start, load_on, load_off, load_bytes, load_shards, bytes_fit, shards_fit_lem}
 use Rattle.soundness.proofs.RelayLaws.{relay_skipped}
 use borrow.Author.Rules.{rules}
+use Rattle.soundness.proofs.relay_test.relays_hold.Lts.{else-in_set, else-n-ne0, then-in_set, then-n-ne0+else-loop-j-test+else-not-sound_relay}
 use Rattle.soundness.proofs.relay_test.relays_hold.Statement.{statement}
 use Rattle.soundness.proofs.relay_test.relays_hold.Tie as tie
 
@@ -48,10 +48,10 @@ relays_hold_spec =
     (λ c. search shards_fit_lem)
     (λ c. search rules)
     (λ c. search rules)
-    (λ c. ⊎_elim (λ w. search load_on) (λ w. search load_off) c.if3.branch)
+    (λ c. elim c.if-in_set.branch [ then-in_set w ↦ search load_on | else-in_set w ↦ search load_off ])
     (λ c κs. search (load_bytes, load_shards))
     (λ c. search relay_fails)
     (λ c. search alls)
     (λ c. search alls)
-    (λ c. ⊎_elim (λ w. search alls) (λ w. search relay_skipped) c.if2.branch)
+    (λ c. elim c.if-n-ne0.branch [ then-n-ne0+else-loop-j-test+else-not-sound_relay w ↦ search alls | else-n-ne0 w ↦ search relay_skipped ])
     (λ c. search relays_hold))

@@ -1,8 +1,8 @@
 -- `shards::shard_sizes` meets its contract: after i turns the sizes of the first i entries are stored. Assumes nothing.
-use mathlib.Core.Logic.{⊎_elim}
 use Prim.Native.Nat.{◌-◌}
 use Rattle.soundness.proofs.ShardLaws.{SizesLoop, stores, size_skipped, size_stored}
 use borrow.Author.Rules.{rules}
+use Rattle.soundness.proofs.shards.shard_sizes.Lts.{else-entries-i-ne0, then-entries-i-ne0}
 use Rattle.soundness.proofs.shards.shard_sizes.Statement.{statement}
 use Rattle.soundness.proofs.shards.shard_sizes.Tie as tie
 
@@ -28,5 +28,5 @@ shard_sizes_spec =
     (λ c. search stores)
     (λ c. search stores)
     (λ c. search stores)
-    (λ c. ⊎_elim (λ w. search size_stored) (λ w. search size_skipped) c.if1.branch)
+    (λ c. elim c.if-entries-i-ne0.branch [ then-entries-i-ne0 w ↦ search size_stored | else-entries-i-ne0 w ↦ search size_skipped ])
     (λ c. search stores))
