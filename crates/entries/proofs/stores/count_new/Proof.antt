@@ -9,7 +9,7 @@ use Rattle.entries.proofs.CountLaws.{CountLoop, counts-part}
 use Rattle.entries.proofs.PathLaws.{lent-paths}
 use Rattle.entries.proofs.FlagLaws.{SeekLoop, seek_start, seek_found, seek_past, seek_unread, seek_size, new_counted, known_skipped}
 use borrow.Author.Rules.{rules}
-use Rattle.entries.proofs.stores.count_new.Lts.{else-not-there, then-not-there}
+use Rattle.entries.proofs.stores.count_new.Lts.{else-marks-j, else-not-there, then-marks-j+else-is_entry, then-marks-j+then-is_entry, then-not-there}
 use Rattle.entries.proofs.stores.count_new.Statement.{statement}
 use Rattle.entries.proofs.stores.count_new.Tie as tie
 
@@ -36,7 +36,7 @@ count_new_spec =
     (λ c κs. search rules)
     (λ c. search rules)
     (λ c. search rules)
-    (λ c. elim c.if-marks-j.branch [ then-marks-j w ↦ search (seek_found, rules) | else-marks-j w ↦ λ v. ⊎_elim (search (seek_past, rules)) (λ w. search (seek_unread, rules)) v ])
+    (λ c. elim c.if-marks-j.branch [ then-marks-j+then-is_entry w ↦ search (seek_found, rules) | then-marks-j+else-is_entry w ↦ search (seek_past, rules) | else-marks-j w ↦ search (seek_unread, rules) ])
     (λ c. search counts-part)
     (λ c. search counts-part)
     (λ c. search counts-part)

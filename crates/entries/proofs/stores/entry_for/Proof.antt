@@ -8,4 +8,4 @@ entry_for_spec =
     tie.close
     (tie.spec
     (λ c κs. search rules)
-    (λ c. rw c.before.write-anew.ensures))
+    (λ c. rw c.write_anew-path.ensures))

@@ -10,7 +10,7 @@ use Rattle.rows.specs.Blank.{blank_entry}
 use Rattle.entries.specs.MarkLaws.{row_marked, row_unmarked, not_replaced}
 use Rattle.entries.proofs.PutKeyLaws.{not_keyed}
 use borrow.Author.Rules.{rules}
-use Rattle.entries.proofs.stores.mark_replaced.Lts.{then-entries-i, else-entries-i}
+use Rattle.entries.proofs.stores.mark_replaced.Lts.{else-entries-i, then-entries-i+else-has_key, then-entries-i+then-has_key}
 use Rattle.entries.proofs.stores.mark_replaced.Statement.{statement}
 use Rattle.entries.proofs.stores.mark_replaced.Tie as tie
 
@@ -32,5 +32,5 @@ mark_replaced_spec =
     (λ c. search Fills-of)
     (λ c. search Fills-of)
     (λ c. search Fills-of)
-    (λ c. elim c.if-entries-i.branch [ then-entries-i w ↦ search (row_marked blank_entry, rules) | else-entries-i w ↦ λ v. ⊎_elim (search (row_unmarked blank_entry, not_keyed, rules)) (λ w. search (row_unmarked blank_entry, not_replaced, rules)) v ])
+    (λ c. elim c.if-entries-i.branch [ then-entries-i+then-has_key w ↦ search (row_marked blank_entry, rules) | then-entries-i+else-has_key w ↦ search (row_unmarked blank_entry, not_keyed, rules) | else-entries-i w ↦ search (row_unmarked blank_entry, not_replaced, rules) ])
     (λ c. search Fills-of))
