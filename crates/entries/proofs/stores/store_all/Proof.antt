@@ -1,12 +1,12 @@
 -- `stores::store_all` meets its contract: what is left to store decides, and a row without a mark has none of the puts' paths; for each put, the rows
 -- from j on are searched. Assumes nothing.
-use mathlib.Core.Logic.{⊎_elim}
 use Prim.Native.Nat.{◌-◌}
 use lib.ListN.{take}
 use Rattle.entries.proofs.PathLaws.{lent-paths}
 use Rattle.entries.proofs.UnmarkedLaws.{unmarked_set, unmarked_kept}
 use Rattle.entries.proofs.StoreLaws.{PutLoop, RowLoop, stores, turns, row_start, rows_size, marks_size, store_put, store_none, takes_row}
 use borrow.Author.Rules.{rules}
+use Rattle.entries.proofs.stores.store_all.Lts.{else-to-lt64, then-to-lt64}
 use Rattle.entries.proofs.stores.store_all.Statement.{statement}
 use Rattle.entries.proofs.stores.store_all.Tie as tie
 
@@ -51,8 +51,5 @@ store_all_spec =
     (λ c. search rules)
     (λ c. search rules)
     (λ c.
-    ⊎_elim
-    (λ w. record { left = search (store_put, takes_row); unmarked = search unmarked_set })
-    (λ w. record { left = search (store_none, takes_row); unmarked = search unmarked_kept })
-    c.if-to-lt64.branch)
+    elim c.if-to-lt64.branch [ then-to-lt64 w ↦ record { left = search (store_put, takes_row); unmarked = search unmarked_set } | else-to-lt64 w ↦ record { left = search (store_none, takes_row); unmarked = search unmarked_kept } ])
     (λ c. search stores))
