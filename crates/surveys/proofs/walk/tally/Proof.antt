@@ -3,6 +3,7 @@ use mathlib.Core.Logic.{⊎_elim}
 use Prim.Native.Nat.{◌-◌}
 use Rattle.surveys.proofs.SurveyLaws.{TallyLoop, tallies, tally_over, tally_adds, tally_replaced, tally_other, tally_free}
 use borrow.Author.Rules.{rules}
+use Rattle.surveys.proofs.walk.tally.Lts.{then-entries-i-ne0, else-entries-i-ne0}
 use Rattle.surveys.proofs.walk.tally.Statement.{statement}
 use Rattle.surveys.proofs.walk.tally.Tie as tie
 
@@ -27,9 +28,10 @@ tally_spec =
     (λ c. search tallies)
     (λ c. search tallies)
     (λ c.
-    ⊎_elim (λ w. search (tally_over, rules))
-    (λ v.
-    ⊎_elim (λ w. search (tally_adds, rules))
-    (λ u. ⊎_elim (λ w. search (tally_replaced, rules)) (λ y. ⊎_elim (λ w. search (tally_other, rules)) (λ w. search (tally_free, rules)) y) u) v)
-    c.if1.branch)
+    elim c.if-entries-i-ne0.branch [
+      | then-entries-i-ne0 w ↦ search (tally_over, rules)
+      | else-entries-i-ne0 w ↦ λ v.
+          ⊎_elim (search (tally_adds, rules))
+          (λ u. ⊎_elim (λ w. search (tally_replaced, rules)) (λ y. ⊎_elim (λ w. search (tally_other, rules)) (λ w. search (tally_free, rules)) y) u) v
+    ])
     (λ c. search tallies))

@@ -1,10 +1,10 @@
 -- `within::all_tokens` meets its contract: the loop of a test of all rows. Assumes nothing.
 use Prim.Native.Nat.{◌-◌}
-use mathlib.Core.Logic.{⊎_elim}
 use Rattle.lists.specs.LoopLaws.{AllLoop, alls}
 use Rattle.surveys.specs.RowLimits.{token_within}
 use Rattle.surveys.proofs.WithinRows.{token_over, token_under, token_free}
 use borrow.Author.Rules.{rules}
+use Rattle.surveys.proofs.within.all_tokens.Lts.{else-rows-i-ne0, then-rows-i-ne0+else-rows-i-gt1152921504606846976}
 use Rattle.surveys.proofs.within.all_tokens.Statement.{statement}
 use Rattle.surveys.proofs.within.all_tokens.Tie as tie
 
@@ -22,5 +22,5 @@ all_tokens_spec =
     (λ c. search (token_over, rules))
     (λ c. search alls)
     (λ c. search alls)
-    (λ c. ⊎_elim (λ w. search (token_under, rules)) (λ w. search (token_free, rules)) c.if1.branch)
+    (λ c. elim c.if-rows-i-ne0.branch [ then-rows-i-ne0+else-rows-i-gt1152921504606846976 w ↦ search (token_under, rules) | else-rows-i-ne0 w ↦ search (token_free, rules) ])
     (λ c. search alls))
