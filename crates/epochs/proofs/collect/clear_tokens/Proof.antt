@@ -1,9 +1,9 @@
 -- `collect::clear_tokens` meets its contract: after i turns the first i rows are cleared where they are one of these volumes'. Assumes nothing.
-use mathlib.Core.Logic.{⊎_elim}
 use Prim.Native.Nat.{◌-◌}
 use Rattle.rules.specs.Fresh.{fresh_token}
 use Rattle.rules.proofs.Laws.ClearLoops.{ClearLoop, clears}
 use Rattle.epochs.specs.Gone.{token_gone}
+use Rattle.epochs.proofs.collect.clear_tokens.Lts.{else-is_token_gone, then-is_token_gone}
 use Rattle.epochs.proofs.collect.clear_tokens.Statement.{statement}
 use Rattle.epochs.proofs.collect.clear_tokens.Tie as tie
 
@@ -24,5 +24,5 @@ clear_tokens_spec =
     (λ c. search clears)
     (λ c. search clears)
     (λ c. search clears)
-    (λ c. ⊎_elim (λ w. search clears) (λ w. search clears) c.if1.branch)
+    (λ c. elim c.if-is_token_gone.branch [ then-is_token_gone w ↦ search clears | else-is_token_gone w ↦ search clears ])
     (λ c. search clears))

@@ -1,9 +1,9 @@
 -- `due::clear_due` meets its contract: after i turns the first i rows are cleared where they are due. Assumes nothing.
-use mathlib.Core.Logic.{⊎_elim}
 use Prim.Native.Nat.{◌-◌}
 use Rattle.rules.specs.Fresh.{fresh_volume}
 use Rattle.rules.specs.Advance.{is_due}
 use Rattle.rules.proofs.Laws.ClearLoops.{ClearLoop, clears}
+use Rattle.epochs.proofs.due.clear_due.Lts.{else-is_due, then-is_due}
 use Rattle.epochs.proofs.due.clear_due.Statement.{statement}
 use Rattle.epochs.proofs.due.clear_due.Tie as tie
 
@@ -22,5 +22,5 @@ clear_due_spec =
     (λ c. search clears)
     (λ c. search clears)
     (λ c. search clears)
-    (λ c. ⊎_elim (λ w. search clears) (λ w. search clears) c.if1.branch)
+    (λ c. elim c.if-is_due.branch [ then-is_due w ↦ search clears | else-is_due w ↦ search clears ])
     (λ c. search clears))

@@ -1,9 +1,9 @@
 -- `leave::relays_left` meets its contract: after i turns the first i rows are cleared where their relay is at health 0. Assumes nothing.
-use mathlib.Core.Logic.{⊎_elim}
 use Prim.Native.Nat.{◌-◌}
 use Rattle.rules.specs.Fresh.{fresh_relay}
 use Rattle.rules.specs.Relays.{is_dead}
 use Rattle.rules.proofs.Laws.ClearLoops.{ClearLoop, clears}
+use Rattle.epochs.proofs.leave.relays_left.Lts.{else-is_dead, then-is_dead}
 use Rattle.epochs.proofs.leave.relays_left.Statement.{statement}
 use Rattle.epochs.proofs.leave.relays_left.Tie as tie
 
@@ -24,5 +24,5 @@ relays_left_spec =
     (λ c. search clears)
     (λ c. search clears)
     (λ c. search clears)
-    (λ c. ⊎_elim (λ w. search clears) (λ w. search clears) c.if1.branch)
+    (λ c. elim c.if-is_dead.branch [ then-is_dead w ↦ search clears | else-is_dead w ↦ search clears ])
     (λ c. search clears))
