@@ -1,10 +1,10 @@
 -- `marks::clear_kept_entries` meets its contract: after i turns the first i rows are cleared where they are marked. Assumes nothing.
-use mathlib.Core.Logic.{⊎_elim}
 use Prim.Native.Nat.{◌-◌}
 use Rattle.lists.specs.ByteLoopLaws.{FillLoop}
 use Rattle.entries.specs.Marks.{cleared_by}
 use Rattle.entries.specs.MarkLaws.{clearing}
 use Rattle.kept_entries.proofs.RowLaws.{cleared_of}
+use Rattle.kept_entries.proofs.marks.clear_kept_entries.Lts.{else-marks-i, then-marks-i}
 use Rattle.kept_entries.proofs.marks.clear_kept_entries.Statement.{statement}
 use Rattle.kept_entries.proofs.marks.clear_kept_entries.Tie as tie
 
@@ -21,5 +21,5 @@ clear_kept_entries_spec =
     (λ c. search clearing)
     (λ c. search clearing)
     (λ c. search clearing)
-    (λ c. ⊎_elim (λ w. search clearing) (λ w. search clearing) c.if1.branch)
+    (λ c. elim c.if-marks-i.branch [ then-marks-i w ↦ search clearing | else-marks-i w ↦ search clearing ])
     (λ c. search (cleared_of, clearing)))

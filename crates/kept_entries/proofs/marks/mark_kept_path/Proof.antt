@@ -2,7 +2,6 @@
 use Prim.Native.Nat.{◌-◌}
 use mathlib.Core.Bool.{false}
 use mathlib.Core.List.{map}
-use mathlib.Core.Logic.{⊎_elim}
 use lib.ListN.{replicate}
 use Rattle.lists.specs.ByteLoopLaws.{FillLoop}
 use Rattle.rules.specs.Tables.{is_entry}
@@ -10,6 +9,7 @@ use Rattle.kept_entries.specs.KeptEntries.{entries_in}
 use Rattle.kept_entries.proofs.MappedLaws.{mapped-fills}
 use Rattle.kept_entries.proofs.RowLaws.{kept_marked, kept_unmarked, kept_other}
 use borrow.Author.Rules.{rules}
+use Rattle.kept_entries.proofs.marks.mark_kept_path.Lts.{else-rows-i, then-rows-i}
 use Rattle.kept_entries.proofs.marks.mark_kept_path.Statement.{statement}
 use Rattle.kept_entries.proofs.marks.mark_kept_path.Tie as tie
 
@@ -28,5 +28,5 @@ mark_kept_path_spec =
     (λ c. search mapped-fills)
     (λ c. search mapped-fills)
     (λ c. search mapped-fills)
-    (λ c. ⊎_elim (λ w. search (kept_marked, rules)) (λ w. search (kept_unmarked, kept_other, rules)) c.if1.branch)
+    (λ c. elim c.if-rows-i.branch [ then-rows-i w ↦ search (kept_marked, rules) | else-rows-i w ↦ search (kept_unmarked, kept_other, rules) ])
     (λ c. search mapped-fills))

@@ -1,11 +1,11 @@
 -- `room::give_kept_back` meets its contract: what is left to give back decides. Assumes nothing.
 use mathlib.Core.List.{[]}
-use mathlib.Core.Logic.{⊎_elim}
 use Prim.Native.Nat.{◌-◌}
 use Rattle.entries.specs.MarkLaws.{GiveLoop, give_none}
 use Rattle.kept_entries.specs.KeptEntries.{entries_in}
 use Rattle.kept_entries.proofs.GiveLaws.{kept_Gives}
 use borrow.Author.Rules.{rules}
+use Rattle.kept_entries.proofs.room.give_kept_back.Lts.{else-marks-i, then-marks-i}
 use Rattle.kept_entries.proofs.room.give_kept_back.Statement.{statement}
 use Rattle.kept_entries.proofs.room.give_kept_back.Tie as tie
 
@@ -26,5 +26,5 @@ give_kept_back_spec =
     (λ c κs. search kept_Gives)
     (λ c. search kept_Gives)
     (λ c. search kept_Gives)
-    (λ c. ⊎_elim (λ w. search kept_Gives) (λ w. search kept_Gives) c.if2.branch)
+    (λ c. elim c.if-marks-i.branch [ then-marks-i w ↦ search kept_Gives | else-marks-i w ↦ search kept_Gives ])
     (λ c. search kept_Gives))

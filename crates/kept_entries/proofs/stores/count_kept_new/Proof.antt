@@ -6,6 +6,7 @@ use Rattle.lists.specs.RowLaws.{rows_length}
 use Rattle.kept_entries.specs.KeptEntries.{path_in}
 use Rattle.kept_entries.proofs.CountLaws.{NewLoop, SeekLoop, counts, seek_start, seek_found, seek_past, seek_unread, seek_size, new_counted, known_skipped}
 use borrow.Author.Rules.{rules}
+use Rattle.kept_entries.proofs.stores.count_kept_new.Lts.{else-marks-k, else-not-there, then-marks-k+else-has_path, then-marks-k+then-has_path, then-not-there}
 use Rattle.kept_entries.proofs.stores.count_kept_new.Statement.{statement}
 use Rattle.kept_entries.proofs.stores.count_kept_new.Tie as tie
 
@@ -30,9 +31,9 @@ count_kept_new_spec =
     (λ c κs. search rules)
     (λ c. search rules)
     (λ c. search rules)
-    (λ c. ⊎_elim (λ w. search (seek_found, rules)) (λ v. ⊎_elim (λ w. search (seek_past, rules)) (λ w. search (seek_unread, rules)) v) c.if1.branch)
+    (λ c. elim c.if-marks-k.branch [ then-marks-k+then-has_path w ↦ search (seek_found, rules) | then-marks-k+else-has_path w ↦ search (seek_past, rules) | else-marks-k w ↦ search (seek_unread, rules) ])
     (λ c. search counts)
     (λ c. search counts)
     (λ c. search counts)
-    (λ c. ⊎_elim (λ w. search (new_counted, rules)) (λ w. search (known_skipped, rules)) c.if3.branch)
+    (λ c. elim c.if-not-there.branch [ then-not-there w ↦ search (new_counted, rules) | else-not-there w ↦ search (known_skipped, rules) ])
     (λ c. search counts))

@@ -3,7 +3,6 @@
 use Prim.Native.Nat.{◌-◌}
 use mathlib.Core.Bool.{false}
 use mathlib.Core.List.{map}
-use mathlib.Core.Logic.{⊎_elim}
 use lib.ListN.{replicate, take}
 use Rattle.lists.specs.ByteLoopLaws.{FillLoop}
 use Rattle.rules.specs.Tables.{is_put}
@@ -13,6 +12,7 @@ use Rattle.kept_entries.proofs.MappedLaws.{mapped-fills}
 use Rattle.kept_entries.proofs.RowLaws.{kept_marked, kept_unmarked}
 use Rattle.kept_entries.proofs.FlagLaws.{FlagLoop, flags, put_passed, put_failed, replaced_told, replaced_other}
 use borrow.Author.Rules.{rules}
+use Rattle.kept_entries.proofs.stores.mark_kept_replaced.Lts.{else-is_number, else-same_paths, then-is_number+else-loop-k-test, then-same_paths}
 use Rattle.kept_entries.proofs.stores.mark_kept_replaced.Statement.{statement}
 use Rattle.kept_entries.proofs.stores.mark_kept_replaced.Tie as tie
 
@@ -41,9 +41,9 @@ mark_kept_replaced_spec =
     (λ c κs. search rules)
     (λ c. search rules)
     (λ c. search rules)
-    (λ c. ⊎_elim (λ w. search (put_passed, rules)) (λ w. search (put_failed, rules)) c.if2.branch)
+    (λ c. elim c.if-same_paths.branch [ then-same_paths w ↦ search (put_passed, rules) | else-same_paths w ↦ search (put_failed, rules) ])
     (λ c. search mapped-fills)
     (λ c. search mapped-fills)
     (λ c. search mapped-fills)
-    (λ c. ⊎_elim (λ w. search (kept_marked, replaced_told, rules)) (λ w. search (kept_unmarked, replaced_other, rules)) c.if1.branch)
+    (λ c. elim c.if-is_number.branch [ then-is_number+else-loop-k-test w ↦ search (kept_marked, replaced_told, rules) | else-is_number w ↦ search (kept_unmarked, replaced_other, rules) ])
     (λ c. search mapped-fills))

@@ -1,11 +1,11 @@
 -- `stores::store_kept` meets its contract: what is left to store decides, and a row without a mark has none of the puts' paths; for each put, the rows
 -- from k on are searched. Assumes nothing.
-use mathlib.Core.Logic.{⊎_elim}
 use Prim.Native.Nat.{◌-◌}
 use Rattle.kept_entries.specs.KeptEntries.{path_in}
 use Rattle.kept_entries.proofs.UnmarkedLaws.{unmarked_set, unmarked_kept}
 use Rattle.kept_entries.proofs.StoreLaws.{PutLoop, RowLoop, stores, turns, row_start, rows_size, marks_size, store_put, store_none, takes_row}
 use borrow.Author.Rules.{rules}
+use Rattle.kept_entries.proofs.stores.store_kept.Lts.{else-to-lt64, then-to-lt64}
 use Rattle.kept_entries.proofs.stores.store_kept.Statement.{statement}
 use Rattle.kept_entries.proofs.stores.store_kept.Tie as tie
 
@@ -47,8 +47,5 @@ store_kept_spec =
     (λ c. search rules)
     (λ c. search rules)
     (λ c.
-    ⊎_elim
-    (λ w. record { left = search (store_put, takes_row); unmarked = search unmarked_set })
-    (λ w. record { left = search (store_none, takes_row); unmarked = search unmarked_kept })
-    c.if3.branch)
+    elim c.if-to-lt64.branch [ then-to-lt64 w ↦ record { left = search (store_put, takes_row); unmarked = search unmarked_set } | else-to-lt64 w ↦ record { left = search (store_none, takes_row); unmarked = search unmarked_kept } ])
     (λ c. search stores))

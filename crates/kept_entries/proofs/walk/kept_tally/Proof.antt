@@ -5,6 +5,7 @@ use Prim.Native.Nat.{◌-◌}
 use Rattle.kept_entries.specs.KeptEntries.{entries_in}
 use Rattle.kept_entries.proofs.SurveyLaws.{TallyLoop, tallies, tally_over, tally_adds, tally_replaced, tally_other, tally_free}
 use borrow.Author.Rules.{rules}
+use Rattle.kept_entries.proofs.walk.kept_tally.Lts.{else-entries-i-ne0, then-entries-i-ne0+else-entries-i-gt68719476736+else-entries-i, then-entries-i-ne0+else-entries-i-gt68719476736+then-entries-i+else-not-marks-i, then-entries-i-ne0+else-entries-i-gt68719476736+then-entries-i+then-not-marks-i, then-entries-i-ne0+then-entries-i-gt68719476736}
 use Rattle.kept_entries.proofs.walk.kept_tally.Statement.{statement}
 use Rattle.kept_entries.proofs.walk.kept_tally.Tie as tie
 
@@ -29,9 +30,5 @@ kept_tally_spec =
     (λ c. search tallies)
     (λ c. search tallies)
     (λ c.
-    ⊎_elim (λ w. search (tally_over, rules))
-    (λ v.
-    ⊎_elim (λ w. search (tally_adds, rules))
-    (λ u. ⊎_elim (λ w. search (tally_replaced, rules)) (λ y. ⊎_elim (λ w. search (tally_other, rules)) (λ w. search (tally_free, rules)) y) u) v)
-    c.if1.branch)
+    elim c.if-entries-i-ne0.branch [ then-entries-i-ne0+then-entries-i-gt68719476736 w ↦ search (tally_over, rules) | then-entries-i-ne0+else-entries-i-gt68719476736+then-entries-i+then-not-marks-i w ↦ search (tally_adds, rules) | then-entries-i-ne0+else-entries-i-gt68719476736+then-entries-i+else-not-marks-i w ↦ search (tally_replaced, rules) | then-entries-i-ne0+else-entries-i-gt68719476736+else-entries-i w ↦ search (tally_other, rules) | else-entries-i-ne0 w ↦ search (tally_free, rules) ])
     (λ c. search tallies))
