@@ -1,4 +1,4 @@
-/* Pailorchard, the proved storage desk, as a static library (`rt staticlib pailorchard` writes target/staticlib/libpailorchard.a).
+/* Pailorchard, the proved storage desk, as a static library (`rt lib` in crates/pailorchard writes crates/pailorchard/out/libpailorchard.a).
  *
  * A byte slice is a pointer and a length. The pointer is never null, also where the length is 0. What is lent to be
  * written overlaps nothing else that is lent. No function keeps a pointer, takes memory, or prints.

@@ -1,7 +1,9 @@
-/* Replays the journal in the file named by the one argument and prints its transcript, as target/bin/replay does.
+/* Replays the journal in the file named by the one argument and prints its transcript, as the program `replay` does. In the
+ * root of the repository:
  *
- *     rt staticlib pailorchard
- *     cc -std=c11 -Wall -Ibindings examples/replay.c target/staticlib/libpailorchard.a -o target/replay_c
+ *     (cd crates/pailorchard && rt lib)
+ *     mkdir -p target
+ *     cc -std=c11 -Wall -Ibindings examples/replay.c crates/pailorchard/out/libpailorchard.a -o target/replay_c
  *     target/replay_c examples/day.journal
  */
 #include <stdio.h>
