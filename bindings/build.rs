@@ -4,7 +4,8 @@ use std::path::PathBuf;
 
 fn main() {
     println!("cargo:rerun-if-env-changed=PAILORCHARD_LIBRARY");
-    let written = concat!(env!("CARGO_MANIFEST_DIR"), "/../crates/pailorchard/out/libpailorchard.a");
+    let written =
+        concat!(env!("CARGO_MANIFEST_DIR"), "/../crates/pailorchard/out/libpailorchard.a");
     let named = std::env::var_os("PAILORCHARD_LIBRARY");
     let library = named.map_or(PathBuf::from(written), PathBuf::from);
     println!("cargo:rerun-if-changed={}", library.display());
