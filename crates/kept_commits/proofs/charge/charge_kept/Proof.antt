@@ -5,6 +5,7 @@ use mathlib.Core.List.{map}
 use Rattle.lists.specs.ByteLoopLaws.{FillLoop, Fills-of}
 use Rattle.kept_commits.proofs.TokenLaws.{kept_by, kept_most, charge_free, charge_other, charge_one, charge_end}
 use borrow.Author.Rules.{rules}
+use Rattle.kept_commits.proofs.charge.charge_kept.Lts.{else-rows-i-ne0, then-rows-i-ne0+else-is_member, then-rows-i-ne0+then-is_member}
 use Rattle.kept_commits.proofs.charge.charge_kept.Statement.{statement}
 use Rattle.kept_commits.proofs.charge.charge_kept.Tie as tie
 
@@ -30,5 +31,5 @@ charge_kept_spec =
     (λ c. search Fills-of)
     (λ c. search Fills-of)
     (λ c. search Fills-of)
-    (λ c. ⊎_elim (λ w. search (charge_one, rules)) (λ v. ⊎_elim (λ w. search (charge_other, rules)) (λ w. search (charge_free, rules)) v) c.if1.branch)
+    (λ c. elim c.if-rows-i-ne0.branch [ then-rows-i-ne0+then-is_member w ↦ search (charge_one, rules) | then-rows-i-ne0+else-is_member w ↦ search (charge_other, rules) | else-rows-i-ne0 w ↦ search (charge_free, rules) ])
     (λ c. search (charge_end, Fills-of)))

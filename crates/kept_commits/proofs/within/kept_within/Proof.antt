@@ -1,10 +1,10 @@
 -- `within::kept_within` meets its contract: the loop of a test of all rows. Assumes nothing.
 use Prim.Native.Nat.{◌-◌}
-use mathlib.Core.Logic.{⊎_elim}
 use Rattle.lists.specs.LoopLaws.{AllLoop, alls}
 use Rattle.kept_commits.specs.KeptLimits.{within_kept}
 use Rattle.kept_commits.proofs.TokenLaws.{kept_over, kept_under, kept_free, within_in}
 use borrow.Author.Rules.{rules}
+use Rattle.kept_commits.proofs.within.kept_within.Lts.{else-rows-i-ne0, then-rows-i-ne0+else-rows-i-gt1152921504606846976}
 use Rattle.kept_commits.proofs.within.kept_within.Statement.{statement}
 use Rattle.kept_commits.proofs.within.kept_within.Tie as tie
 
@@ -22,5 +22,5 @@ kept_within_spec =
     (λ c. (search (kept_over, rules), λ j. search (within_in, kept_over, rules)))
     (λ c. search alls)
     (λ c. search alls)
-    (λ c. ⊎_elim (λ w. search (kept_under, rules)) (λ w. search (kept_free, rules)) c.if1.branch)
+    (λ c. elim c.if-rows-i-ne0.branch [ then-rows-i-ne0+else-rows-i-gt1152921504606846976 w ↦ search (kept_under, rules) | else-rows-i-ne0 w ↦ search (kept_free, rules) ])
     (λ c. (search alls, λ j. search (within_in, alls))))
