@@ -5,6 +5,8 @@
 #![tactic(auto)]
 
 use amount::{Cap, ReadAmount, Written};
+use std::io;
+use std::io::{BufWriter, Read, Write};
 
 // The counts that are written, and the bytes that are lent for each.
 const COUNTS: [u64; 23] = [
@@ -49,86 +51,79 @@ fn shown(b: u8) -> u8 {
 }
 
 // Prints the bytes of a text in brackets.
-fn show(text: &[u8]) {
-    io::write_all(1, b"[");
-    let mut i: usize = 0;
-    while i < text.len() {
-        let one = [shown(text[i])];
-        io::write_all(1, &one);
-        i += 1;
+fn show(out: &mut impl Write, text: &[u8]) -> io::Result<()> {
+    out.write_all(b"[")?;
+    for b in text {
+        let one = [shown(*b)];
+        out.write_all(&one)?;
     }
-    io::write_all(1, b"] ");
+    out.write_all(b"] ")
 }
 
 // Prints an answer and its value.
-fn answer(number: u32, value: u64) {
-    io::print_decimal(1, number as u64);
-    io::write_all(1, b" ");
-    io::print_decimal(1, value);
-    io::write_all(1, b"\n");
+fn answer(out: &mut impl Write, number: u32, value: u64) -> io::Result<()> {
+    writeln!(out, "{number} {value}")
 }
 
 // Reads a text and prints what that gives.
-fn reading(text: &[u8]) {
-    show(text);
+fn reading(out: &mut impl Write, text: &[u8]) -> io::Result<()> {
+    show(out, text)?;
     match amount::read_amount(text) {
         ReadAmount::Read(cap) => match cap {
-            Cap::Unlimited => {
-                io::write_all(1, b"0 unlimited\n");
-            }
-            Cap::Bytes(n) => answer(0, n),
+            Cap::Unlimited => out.write_all(b"0 unlimited\n"),
+            Cap::Bytes(n) => answer(out, 0, n),
         },
-        ReadAmount::Refused(number) => answer(number, 0),
+        ReadAmount::Refused(number) => answer(out, number, 0),
     }
 }
 
 // Reads each line of a text, without its newline.
-fn lines(text: &[u8]) {
+fn lines(out: &mut impl Write, text: &[u8]) -> io::Result<()> {
     let mut start: usize = 0;
-    let mut i: usize = 0;
-    while i < text.len() {
-        if text[i] == 10 {
-            reading(&text[start..i]);
+    for (i, b) in text.iter().enumerate() {
+        if *b == 10 {
+            reading(out, &text[start..i])?;
             start = i + 1;
         }
-        i += 1;
     }
+    Ok(())
 }
 
 // Writes a cap at the start of 20 points, of which so many are lent, and prints what that gives.
-fn writing(cap: Cap, size: usize) {
+fn writing(out: &mut impl Write, cap: Cap, size: usize) -> io::Result<()> {
     if 20 < size {
-        return;
+        return Ok(());
     }
     let mut buf = [46u8; 20];
     let written = amount::write_amount(cap, &mut buf[..size]);
-    show(&buf);
+    show(out, &buf)?;
     match written {
-        Written::Length(n) => answer(0, n as u64),
-        Written::Refused(number) => answer(number, 0),
+        Written::Length(n) => answer(out, 0, n as u64),
+        Written::Refused(number) => answer(out, number, 0),
     }
 }
 
 // Writes each count of the table.
-fn counts() {
-    let mut i: usize = 0;
-    while i < 23 {
-        writing(Cap::Bytes(COUNTS[i]), SIZES[i]);
-        i += 1;
+fn counts(out: &mut impl Write) -> io::Result<()> {
+    for i in 0..23 {
+        writing(out, Cap::Bytes(COUNTS[i]), SIZES[i])?;
     }
+    Ok(())
 }
 
-fn main() {
-    let mut space = io::buffer();
-    let n = io::read_full(0, &mut space);
-    lines(&space[..n]);
-    reading(b"unlimited\n");
-    reading(b"1 B\n");
-    reading(&[57u8; 1000]);
-    reading(&[48u8; 1000]);
-    counts();
-    writing(Cap::Unlimited, 20);
-    writing(Cap::Unlimited, 9);
-    writing(Cap::Unlimited, 8);
-    writing(Cap::Unlimited, 0);
+fn main(rt: HostRuntime) -> io::Result<()> {
+    let mut space = Vec::new(rt.alloc());
+    rt.reader().take(4096).read_to_end(&mut space)?;
+    let mut out = BufWriter::new(rt.alloc(), io::writer(&rt))?;
+    lines(&mut out, &space)?;
+    reading(&mut out, b"unlimited\n")?;
+    reading(&mut out, b"1 B\n")?;
+    reading(&mut out, &[57u8; 1000])?;
+    reading(&mut out, &[48u8; 1000])?;
+    counts(&mut out)?;
+    writing(&mut out, Cap::Unlimited, 20)?;
+    writing(&mut out, Cap::Unlimited, 9)?;
+    writing(&mut out, Cap::Unlimited, 8)?;
+    writing(&mut out, Cap::Unlimited, 0)?;
+    out.flush()
 }

@@ -1,8 +1,9 @@
 // The sixteen calls. Each prints its name, its fields as they were given, the answer and the value, and hands the desk on.
 // An account or a hash is 32 times the byte that is printed of it.
-use super::print::{answer, cap_word, number, scope, text, word};
+use super::print::{Output, answer, cap_word, number, scope, text, word};
 use amount::Cap;
 use rules::{Account, Desk, Hash, Mode, Outcome, RelayNo, TokenNo, VolumeNo};
+use std::io::Write;
 
 pub(crate) fn account(b: u8) -> Account {
     let bytes = [b; 32];
@@ -14,50 +15,59 @@ pub(crate) fn hash_of(b: u8) -> Hash {
     Hash(bytes)
 }
 
-fn told(o: Outcome) -> Desk {
+fn told(out: &mut Output<impl Write>, o: Outcome) -> Desk {
     let a = o.answer;
-    answer(a);
+    answer(out, a);
     o.desk
 }
 
-pub(crate) fn advance(d: Desk, block: u64) -> Desk {
-    word(b"advance");
-    number(block);
-    told(desk::advance(d, block))
+pub(crate) fn advance(out: &mut Output<impl Write>, d: Desk, block: u64) -> Desk {
+    word(out, b"advance");
+    number(out, block);
+    told(out, desk::advance(d, block))
 }
 
-pub(crate) fn create(d: Desk, who: u8, name: &[u8], k: u8, m: u8, cap: Cap) -> Desk {
-    word(b"create");
-    number(who as u64);
-    text(name);
-    number(k as u64);
-    number(m as u64);
-    cap_word(cap);
-    told(desk::create(d, account(who), name, k, m, cap))
+pub(crate) fn create(
+    out: &mut Output<impl Write>,
+    d: Desk,
+    who: u8,
+    name: &[u8],
+    k: u8,
+    m: u8,
+    cap: Cap,
+) -> Desk {
+    word(out, b"create");
+    number(out, who as u64);
+    text(out, name);
+    number(out, k as u64);
+    number(out, m as u64);
+    cap_word(out, cap);
+    told(out, desk::create(d, account(who), name, k, m, cap))
 }
 
-pub(crate) fn deposit(d: Desk, volume: u32, coins: u64) -> Desk {
-    word(b"deposit");
-    number(volume as u64);
-    number(coins);
-    told(desk::deposit(d, VolumeNo(volume), coins))
+pub(crate) fn deposit(out: &mut Output<impl Write>, d: Desk, volume: u32, coins: u64) -> Desk {
+    word(out, b"deposit");
+    number(out, volume as u64);
+    number(out, coins);
+    told(out, desk::deposit(d, VolumeNo(volume), coins))
 }
 
-pub(crate) fn delete(d: Desk, who: u8, volume: u32) -> Desk {
-    word(b"delete");
-    number(who as u64);
-    number(volume as u64);
-    told(desk::delete(d, account(who), VolumeNo(volume)))
+pub(crate) fn delete(out: &mut Output<impl Write>, d: Desk, who: u8, volume: u32) -> Desk {
+    word(out, b"delete");
+    number(out, who as u64);
+    number(out, volume as u64);
+    told(out, desk::delete(d, account(who), VolumeNo(volume)))
 }
 
-pub(crate) fn undelete(d: Desk, who: u8, volume: u32) -> Desk {
-    word(b"undelete");
-    number(who as u64);
-    number(volume as u64);
-    told(desk::undelete(d, account(who), VolumeNo(volume)))
+pub(crate) fn undelete(out: &mut Output<impl Write>, d: Desk, who: u8, volume: u32) -> Desk {
+    word(out, b"undelete");
+    number(out, who as u64);
+    number(out, volume as u64);
+    told(out, desk::undelete(d, account(who), VolumeNo(volume)))
 }
 
 pub(crate) fn grant(
+    out: &mut Output<impl Write>,
     d: Desk,
     who: u8,
     volume: u32,
@@ -67,23 +77,27 @@ pub(crate) fn grant(
     from: u64,
     until: u64,
 ) -> Desk {
-    word(b"grant");
-    number(who as u64);
-    number(volume as u64);
-    scope(prefix, mode, cap, from, until);
-    told(desk::grant(
-        d,
-        account(who),
-        VolumeNo(volume),
-        prefix,
-        mode,
-        cap,
-        from,
-        until,
-    ))
+    word(out, b"grant");
+    number(out, who as u64);
+    number(out, volume as u64);
+    scope(out, prefix, mode, cap, from, until);
+    told(
+        out,
+        desk::grant(
+            d,
+            account(who),
+            VolumeNo(volume),
+            prefix,
+            mode,
+            cap,
+            from,
+            until,
+        ),
+    )
 }
 
 pub(crate) fn attenuate(
+    out: &mut Output<impl Write>,
     d: Desk,
     token: u32,
     prefix: &[u8],
@@ -92,88 +106,110 @@ pub(crate) fn attenuate(
     from: u64,
     until: u64,
 ) -> Desk {
-    word(b"attenuate");
-    number(token as u64);
-    scope(prefix, mode, cap, from, until);
-    told(desk::attenuate(d, TokenNo(token), prefix, mode, cap, from, until))
+    word(out, b"attenuate");
+    number(out, token as u64);
+    scope(out, prefix, mode, cap, from, until);
+    told(
+        out,
+        desk::attenuate(d, TokenNo(token), prefix, mode, cap, from, until),
+    )
 }
 
-pub(crate) fn revoke(d: Desk, who: u8, token: u32) -> Desk {
-    word(b"revoke");
-    number(who as u64);
-    number(token as u64);
-    told(desk::revoke(d, account(who), TokenNo(token)))
+pub(crate) fn revoke(out: &mut Output<impl Write>, d: Desk, who: u8, token: u32) -> Desk {
+    word(out, b"revoke");
+    number(out, who as u64);
+    number(out, token as u64);
+    told(out, desk::revoke(d, account(who), TokenNo(token)))
 }
 
-pub(crate) fn open(d: Desk, slot: u8, token: u32) -> Desk {
-    word(b"open");
-    number(slot as u64);
-    number(token as u64);
-    told(desk::open(d, slot, TokenNo(token)))
+pub(crate) fn open(out: &mut Output<impl Write>, d: Desk, slot: u8, token: u32) -> Desk {
+    word(out, b"open");
+    number(out, slot as u64);
+    number(out, token as u64);
+    told(out, desk::open(d, slot, TokenNo(token)))
 }
 
-pub(crate) fn stage_at(d: Desk, slot: u8, path: &[u8], size: u64, hash: u8) -> Desk {
-    word(b"stage");
-    number(slot as u64);
-    text(path);
-    number(size);
-    number(hash as u64);
-    told(desk::stage(d, slot, path, size, hash_of(hash)))
+pub(crate) fn stage_at(
+    out: &mut Output<impl Write>,
+    d: Desk,
+    slot: u8,
+    path: &[u8],
+    size: u64,
+    hash: u8,
+) -> Desk {
+    word(out, b"stage");
+    number(out, slot as u64);
+    text(out, path);
+    number(out, size);
+    number(out, hash as u64);
+    told(out, desk::stage(d, slot, path, size, hash_of(hash)))
 }
 
 // A path of one byte; the object's hash is 7.
-pub(crate) fn stage(d: Desk, slot: u8, path: u8, size: u64) -> Desk {
+pub(crate) fn stage(out: &mut Output<impl Write>, d: Desk, slot: u8, path: u8, size: u64) -> Desk {
     let bytes = [path];
-    stage_at(d, slot, &bytes, size, 7)
+    stage_at(out, d, slot, &bytes, size, 7)
 }
 
-pub(crate) fn commit(d: Desk, slot: u8) -> Desk {
-    word(b"commit");
-    number(slot as u64);
-    told(desk::commit(d, slot))
+pub(crate) fn commit(out: &mut Output<impl Write>, d: Desk, slot: u8) -> Desk {
+    word(out, b"commit");
+    number(out, slot as u64);
+    told(out, desk::commit(d, slot))
 }
 
-pub(crate) fn abandon(d: Desk, slot: u8) -> Desk {
-    word(b"abandon");
-    number(slot as u64);
-    told(desk::abandon(d, slot))
+pub(crate) fn abandon(out: &mut Output<impl Write>, d: Desk, slot: u8) -> Desk {
+    word(out, b"abandon");
+    number(out, slot as u64);
+    told(out, desk::abandon(d, slot))
 }
 
-pub(crate) fn remove_at(d: Desk, who: u8, volume: u32, path: &[u8]) -> Desk {
-    word(b"remove");
-    number(who as u64);
-    number(volume as u64);
-    text(path);
-    told(desk::remove(d, account(who), VolumeNo(volume), path))
+pub(crate) fn remove_at(
+    out: &mut Output<impl Write>,
+    d: Desk,
+    who: u8,
+    volume: u32,
+    path: &[u8],
+) -> Desk {
+    word(out, b"remove");
+    number(out, who as u64);
+    number(out, volume as u64);
+    text(out, path);
+    told(out, desk::remove(d, account(who), VolumeNo(volume), path))
 }
 
-pub(crate) fn remove(d: Desk, who: u8, volume: u32, path: u8) -> Desk {
+pub(crate) fn remove(
+    out: &mut Output<impl Write>,
+    d: Desk,
+    who: u8,
+    volume: u32,
+    path: u8,
+) -> Desk {
     let bytes = [path];
-    remove_at(d, who, volume, &bytes)
+    remove_at(out, d, who, volume, &bytes)
 }
 
-pub(crate) fn look_at(d: Desk, token: u32, path: &[u8]) -> Desk {
-    word(b"look");
-    number(token as u64);
-    text(path);
-    told(desk::look(d, TokenNo(token), path))
+pub(crate) fn look_at(out: &mut Output<impl Write>, d: Desk, token: u32, path: &[u8]) -> Desk {
+    word(out, b"look");
+    number(out, token as u64);
+    text(out, path);
+    told(out, desk::look(d, TokenNo(token), path))
 }
 
-pub(crate) fn look(d: Desk, token: u32, path: u8) -> Desk {
+pub(crate) fn look(out: &mut Output<impl Write>, d: Desk, token: u32, path: u8) -> Desk {
     let bytes = [path];
-    look_at(d, token, &bytes)
+    look_at(out, d, token, &bytes)
 }
 
-pub(crate) fn register(d: Desk, capacity: u64) -> Desk {
-    word(b"register");
-    number(capacity);
-    told(desk::register(d, capacity))
+pub(crate) fn register(out: &mut Output<impl Write>, d: Desk, capacity: u64) -> Desk {
+    word(out, b"register");
+    number(out, capacity);
+    told(out, desk::register(d, capacity))
 }
 
-pub(crate) fn heartbeat(d: Desk, relay: u32) -> Desk {
-    word(b"heartbeat");
-    number(relay as u64);
-    told(desk::heartbeat(d, RelayNo(relay)))
+pub(crate) fn heartbeat(out: &mut Output<impl Write>, d: Desk, relay: u32) -> Desk {
+    word(out, b"heartbeat");
+    number(out, relay as u64);
+    told(out, desk::heartbeat(d, RelayNo(relay)))
 }
 
 // The first two calls of a session in the slot 0 under the token 1, with nothing printed: for desks that take many of them.

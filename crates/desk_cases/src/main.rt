@@ -25,16 +25,23 @@ mod store_cases;
 mod token_cases;
 mod volume_cases;
 
-fn main() {
-    block_cases::run();
-    relay_cases::run();
-    volume_cases::run();
-    token_cases::run();
-    session_cases::run();
-    commit_cases::run();
-    limit_cases::run();
-    place_cases::run();
-    store_cases::run();
-    epoch_cases::run();
-    length_cases::run();
+use print::Output;
+use std::io;
+use std::io::BufWriter;
+
+fn main(rt: HostRuntime) -> io::Result<()> {
+    let mut output = Output::new(BufWriter::new(rt.alloc(), io::writer(&rt))?);
+    let out = &mut output;
+    block_cases::run(out);
+    relay_cases::run(out);
+    volume_cases::run(out);
+    token_cases::run(out);
+    session_cases::run(out);
+    commit_cases::run(out);
+    limit_cases::run(out);
+    place_cases::run(out);
+    store_cases::run(out);
+    epoch_cases::run(out);
+    length_cases::run(out);
+    output.finish()
 }

@@ -1,132 +1,116 @@
 // What the desk holds after a call: a line for each row in use, in the order of the rows.
-use super::print::{number, word};
+use super::print::{Output, number, word};
 use rules::{Desk, Entry, Placement, Relay, Status, Token, Volume};
+use std::io::Write;
 use text::Text;
 
-fn status_word(s: Status) {
+fn status_word(out: &mut Output<impl Write>, s: Status) {
     match s {
-        Status::Active => word(b" ACTIVE"),
-        Status::Grace => word(b" GRACE_PERIOD"),
-        Status::Deleted => word(b" DELETED"),
+        Status::Active => word(out, b" ACTIVE"),
+        Status::Grace => word(out, b" GRACE_PERIOD"),
+        Status::Deleted => word(out, b" DELETED"),
     }
 }
 
-fn volume_line(v: Volume) {
-    word(b"  volume");
-    number(v.no.0 as u64);
+fn volume_line(out: &mut Output<impl Write>, v: Volume) {
+    word(out, b"  volume");
+    number(out, v.no.0 as u64);
     let s = v.status;
-    status_word(s);
-    word(b" grace");
-    number(v.grace as u64);
-    word(b" balance");
-    number(v.balance);
-    word(b" version");
-    number(v.version as u64);
-    word(b"\n");
+    status_word(out, s);
+    word(out, b" grace");
+    number(out, v.grace as u64);
+    word(out, b" balance");
+    number(out, v.balance);
+    word(out, b" version");
+    number(out, v.version as u64);
+    word(out, b"\n");
 }
 
-pub(crate) fn show_volumes(d: Desk) {
+pub(crate) fn show_volumes(out: &mut Output<impl Write>, d: Desk) {
     let t = d.tables;
     let rows = t.volumes;
-    let mut i: usize = 0;
-    while i < 8 {
-        let v = rows[i];
+    for v in &rows {
         if v.no.0 != 0 {
-            volume_line(v);
+            volume_line(out, *v);
         }
-        i += 1;
     }
 }
 
 // The first byte of a path; the histories that show entries have paths of one byte.
-fn path_word(path: Text) {
+fn path_word(out: &mut Output<impl Write>, path: Text) {
     let bytes = path.bytes;
     let one = [bytes[0]];
-    word(b"  [");
-    word(&one);
-    word(b"]");
+    word(out, b"  [");
+    word(out, &one);
+    word(out, b"]");
 }
 
-fn places(p: Placement) {
+fn places(out: &mut Output<impl Write>, p: Placement) {
     let relays = p.relays;
-    let mut i: usize = 0;
-    while i < 24 {
-        let n = relays[i];
-        if i < p.len {
-            number(n.0 as u64);
-        }
-        i += 1;
+    for n in relays.iter().take(p.len) {
+        number(out, n.0 as u64);
     }
 }
 
-fn entry_line(e: Entry) {
+fn entry_line(out: &mut Output<impl Write>, e: Entry) {
     let path = e.path;
-    path_word(path);
-    word(b" of volume");
-    number(e.volume.0 as u64);
-    word(b" size");
-    number(e.size);
-    word(b" on");
+    path_word(out, path);
+    word(out, b" of volume");
+    number(out, e.volume.0 as u64);
+    word(out, b" size");
+    number(out, e.size);
+    word(out, b" on");
     let p = e.placement;
-    places(p);
-    word(b"\n");
+    places(out, p);
+    word(out, b"\n");
 }
 
-pub(crate) fn show_entries(d: Desk) {
+pub(crate) fn show_entries(out: &mut Output<impl Write>, d: Desk) {
     let t = d.tables;
     let rows = t.entries;
-    let mut i: usize = 0;
-    while i < 64 {
-        let e = rows[i];
+    for e in &rows {
         if e.volume.0 != 0 {
-            entry_line(e);
+            entry_line(out, *e);
         }
-        i += 1;
     }
 }
 
-fn token_line(k: Token) {
-    word(b"  token");
-    number(k.no.0 as u64);
-    word(b" used");
-    number(k.used);
-    word(b"\n");
+fn token_line(out: &mut Output<impl Write>, k: Token) {
+    word(out, b"  token");
+    number(out, k.no.0 as u64);
+    word(out, b" used");
+    number(out, k.used);
+    word(out, b"\n");
 }
 
-pub(crate) fn show_tokens(d: Desk) {
+pub(crate) fn show_tokens(out: &mut Output<impl Write>, d: Desk) {
     let t = d.tables;
     let rows = t.tokens;
-    let mut i: usize = 0;
-    while i < 32 {
-        let k = rows[i];
+    for k in &rows {
         if k.no.0 != 0 {
-            token_line(k);
+            token_line(out, *k);
         }
-        i += 1;
     }
 }
 
-fn relay_line(r: Relay) {
-    word(b"  relay");
-    number(r.no.0 as u64);
-    word(b" shards");
-    number(r.held as u64);
-    word(b" bytes");
-    number(r.used);
-    word(b" of");
-    number(r.capacity);
-    word(b"\n");
+fn relay_line(out: &mut Output<impl Write>, r: Relay) {
+    word(out, b"  relay");
+    number(out, r.no.0 as u64);
+    word(out, b" shards");
+    number(out, r.held as u64);
+    word(out, b" bytes");
+    number(out, r.used);
+    word(out, b" of");
+    number(out, r.capacity);
+    word(out, b"\n");
 }
 
-pub(crate) fn show_relays(d: Desk) {
+pub(crate) fn show_relays(out: &mut Output<impl Write>, d: Desk) {
     let t = d.tables;
     let rows = t.relays;
-    let mut i: usize = 0;
-    while i < 32 {
-        let r = rows[i];
+    for r in &rows {
         if r.no.0 != 0 {
-            relay_line(r);
+            relay_line(out, *r);
         }
-        i += 1;
     }
 }

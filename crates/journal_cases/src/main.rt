@@ -5,16 +5,16 @@
 use amount::Cap;
 use journal::{Fields, Next, Reading, Record, Start, Version};
 use rules::Mode;
+use std::io;
+use std::io::{BufWriter, Write};
 
-const OUT: i32 = 1;
-
-fn word(s: &[u8]) {
-    io::write_all(OUT, s);
+fn word(out: &mut impl Write, s: &[u8]) -> io::Result<()> {
+    out.write_all(s)
 }
 
-fn field(name: &[u8], n: u64) {
-    word(name);
-    io::print_decimal(OUT, n);
+fn field(out: &mut impl Write, name: &[u8], n: u64) -> io::Result<()> {
+    word(out, name)?;
+    write!(out, "{n}")
 }
 
 fn mode_number(m: Mode) -> u64 {
@@ -25,143 +25,132 @@ fn mode_number(m: Mode) -> u64 {
     }
 }
 
-fn show_cap(cap: Cap) {
+fn show_cap(out: &mut impl Write, cap: Cap) -> io::Result<()> {
     match cap {
-        Cap::Unlimited => word(b" cap unlimited"),
-        Cap::Bytes(n) => field(b" cap ", n),
+        Cap::Unlimited => word(out, b" cap unlimited"),
+        Cap::Bytes(n) => field(out, b" cap ", n),
     }
 }
 
 // The first and the last of 32 bytes.
-fn ends(name: &[u8], b: [u8; 32]) {
-    word(name);
-    io::print_hex(OUT, b[0] as u64, 2);
-    word(b"..");
-    io::print_hex(OUT, b[31] as u64, 2);
+fn ends(out: &mut impl Write, name: &[u8], b: [u8; 32]) -> io::Result<()> {
+    word(out, name)?;
+    write!(out, "{:02x}..{:02x}", b[0], b[31])
 }
 
-fn show_record(body: &[u8], r: Record) {
+fn show_record(out: &mut impl Write, body: &[u8], r: Record) -> io::Result<()> {
     let mode = r.mode;
     let cap = r.cap;
-    field(b"no ", r.no as u64);
-    field(b" slot ", r.slot as u64);
-    field(b" k ", r.k as u64);
-    field(b" m ", r.m as u64);
-    field(b" amount ", r.amount);
-    field(b" from ", r.from);
-    field(b" until ", r.until);
-    field(b" mode ", mode_number(mode));
-    show_cap(cap);
-    word(b" text \"");
-    word(journal::text_of(body, r));
-    word(b"\"");
+    field(out, b"no ", r.no as u64)?;
+    field(out, b" slot ", r.slot as u64)?;
+    field(out, b" k ", r.k as u64)?;
+    field(out, b" m ", r.m as u64)?;
+    field(out, b" amount ", r.amount)?;
+    field(out, b" from ", r.from)?;
+    field(out, b" until ", r.until)?;
+    field(out, b" mode ", mode_number(mode))?;
+    show_cap(out, cap)?;
+    word(out, b" text \"")?;
+    word(out, journal::text_of(body, r))?;
+    word(out, b"\"")?;
     if 0 < r.account {
         let a = journal::account_of(body, r);
         let b = a.0;
-        ends(b" account ", b);
+        ends(out, b" account ", b)?;
     }
     if 0 < r.hash {
         let h = journal::hash_of(body, r);
         let b = h.0;
-        ends(b" hash ", b);
+        ends(out, b" hash ", b)?;
     }
-    word(b"\n");
+    word(out, b"\n")
 }
 
 // One record's bytes, in a version.
-fn show_in(v: Version, body: &[u8]) {
+fn show_in(out: &mut impl Write, v: Version, body: &[u8]) -> io::Result<()> {
     match journal::read_record(v, body) {
-        Reading::Fits(r) => show_record(body, r),
-        Reading::Refused(n) => {
-            field(b"", n as u64);
-            word(b"\n");
-        }
+        Reading::Fits(r) => show_record(out, body, r),
+        Reading::Refused(n) => writeln!(out, "{n}"),
     }
 }
 
-fn show(body: &[u8]) {
-    show_in(Version::V01, body);
+fn show(out: &mut impl Write, body: &[u8]) -> io::Result<()> {
+    show_in(out, Version::V01, body)
 }
 
-fn show_02(body: &[u8]) {
-    show_in(Version::V02, body);
+fn show_02(out: &mut impl Write, body: &[u8]) -> io::Result<()> {
+    show_in(out, Version::V02, body)
 }
 
 // How many bytes the text of a record has.
-fn show_length(v: Version, body: &[u8]) {
+fn show_length(out: &mut impl Write, v: Version, body: &[u8]) -> io::Result<()> {
     match journal::read_record(v, body) {
         Reading::Fits(r) => {
             let text = journal::text_of(body, r);
-            field(b"text of ", text.len() as u64);
+            field(out, b"text of ", text.len() as u64)?;
         }
-        Reading::Refused(n) => field(b"", n as u64),
+        Reading::Refused(n) => field(out, b"", n as u64)?,
     }
-    word(b"\n");
+    word(out, b"\n")
 }
 
-fn show_front(v: Version, s: &[u8], end: usize) {
+fn show_front(out: &mut impl Write, v: Version, s: &[u8], end: usize) -> io::Result<()> {
     if s.len() < end {
-        return;
+        return Ok(());
     }
-    show_length(v, &s[0..end]);
+    show_length(out, v, &s[0..end])
 }
 
 // A look with a text of n bytes, after the bytes of its length: one in version 01, two in 02. The record is long enough for it.
-fn look_01(n: usize, length: u8) {
+fn look_01(out: &mut impl Write, n: usize, length: u8) -> io::Result<()> {
     if 1024 < n {
-        return;
+        return Ok(());
     }
     let mut s = [0x61u8; 1040];
     s[0] = 0x0e;
     s[5] = length;
-    show_front(Version::V01, &s, 6 + n);
+    show_front(out, Version::V01, &s, 6 + n)
 }
 
-fn look_02(n: usize, high: u8, low: u8) {
+fn look_02(out: &mut impl Write, n: usize, high: u8, low: u8) -> io::Result<()> {
     if 1025 < n {
-        return;
+        return Ok(());
     }
     let mut s = [0x61u8; 1040];
     s[0] = 0x0e;
     s[5] = high;
     s[6] = low;
-    show_front(Version::V02, &s, 7 + n);
+    show_front(out, Version::V02, &s, 7 + n)
 }
 
 // A record with one byte more after it: whole, cut by a byte, and with the byte left over.
-fn thrice(s: &[u8]) {
+fn thrice(out: &mut impl Write, s: &[u8]) -> io::Result<()> {
     let n = s.len();
     if n < 2 {
-        return;
+        return Ok(());
     }
     let whole = n - 1;
     let cut = n - 2;
-    show(&s[0..whole]);
-    show(&s[0..cut]);
-    show(s);
+    show(out, &s[0..whole])?;
+    show(out, &s[0..cut])?;
+    show(out, s)
 }
 
-fn next(rest: &[u8]) {
+fn next(out: &mut impl Write, rest: &[u8]) -> io::Result<()> {
     match journal::next_record(Version::V01, rest) {
-        Next::End => word(b"end\n"),
-        Next::Whole(_, n) => {
-            field(b"whole ", n as u64);
-            word(b"\n");
-        }
-        Next::Stop(n) => {
-            field(b"stop ", n as u64);
-            word(b"\n");
-        }
+        Next::End => word(out, b"end\n"),
+        Next::Whole(_, n) => writeln!(out, "whole {n}"),
+        Next::Stop(n) => writeln!(out, "stop {n}"),
     }
 }
 
 // The number of a fault at the start, or 0.
-fn start(journal: &[u8]) {
+fn start(out: &mut impl Write, journal: &[u8]) -> io::Result<()> {
     match journal::start_of(journal) {
-        Start::Records(_) => field(b"start ", 0),
-        Start::Fault(n) => field(b"start ", n as u64),
+        Start::Records(_) => field(out, b"start ", 0)?,
+        Start::Fault(n) => field(out, b"start ", n as u64)?,
     }
-    word(b"\n");
+    word(out, b"\n")
 }
 
 const ACCOUNT: [u8; 32] = [
@@ -175,19 +164,22 @@ const HASH: [u8; 32] = [
 ];
 
 // The first 24 bytes of a buffer.
-fn show_bytes(s: &[u8]) {
-    let mut i = 0;
-    while i < s.len() {
-        if i == 24 {
-            return;
-        }
-        io::print_hex(OUT, s[i] as u64, 2);
-        i += 1;
+fn show_bytes(out: &mut impl Write, s: &[u8]) -> io::Result<()> {
+    for b in s.iter().take(24) {
+        write!(out, "{b:02x}")?;
     }
+    Ok(())
 }
 
 // A record written into a buffer.
-fn written_in(version: u8, kind: u8, text: &[u8], mode: u8, buf: &mut [u8]) {
+fn written_in(
+    out: &mut impl Write,
+    version: u8,
+    kind: u8,
+    text: &[u8],
+    mode: u8,
+    buf: &mut [u8],
+) -> io::Result<()> {
     let account = ACCOUNT;
     let hash = HASH;
     let d = Fields {
@@ -205,14 +197,15 @@ fn written_in(version: u8, kind: u8, text: &[u8], mode: u8, buf: &mut [u8]) {
         until: 20,
     };
     let w = journal_writer::write_record(version, d, text, buf);
-    field(b"write ", w.number as u64);
-    field(b" ", w.len as u64);
-    word(b" ");
-    show_bytes(buf);
-    word(b"\n");
+    field(out, b"write ", w.number as u64)?;
+    field(out, b" ", w.len as u64)?;
+    word(out, b" ")?;
+    show_bytes(out, buf)?;
+    word(out, b"\n")
 }
 
 fn in_part(
+    out: &mut impl Write,
     version: u8,
     kind: u8,
     text: &[u8],
@@ -220,255 +213,297 @@ fn in_part(
     mode: u8,
     buf: &mut [u8],
     room: usize,
-) {
+) -> io::Result<()> {
     if text.len() < text_len {
-        return;
+        return Ok(());
     }
     if buf.len() < room {
-        return;
+        return Ok(());
     }
-    written_in(version, kind, &text[0..text_len], mode, &mut buf[0..room]);
+    written_in(
+        out,
+        version,
+        kind,
+        &text[0..text_len],
+        mode,
+        &mut buf[0..room],
+    )
 }
 
 // A record with a text of so many bytes, written into so many bytes of 0xee.
-fn written(kind: u8, text_len: usize, mode: u8, room: usize) {
+fn written(
+    out: &mut impl Write,
+    kind: u8,
+    text_len: usize,
+    mode: u8,
+    room: usize,
+) -> io::Result<()> {
     let text = [0x61u8; 256];
     let mut buf = [0xeeu8; 300];
-    in_part(1, kind, &text, text_len, mode, &mut buf, room);
+    in_part(out, 1, kind, &text, text_len, mode, &mut buf, room)
 }
 
 // The same in any version.
-fn written_as(version: u8, kind: u8, text_len: usize, room: usize) {
+fn written_as(
+    out: &mut impl Write,
+    version: u8,
+    kind: u8,
+    text_len: usize,
+    room: usize,
+) -> io::Result<()> {
     let text = [0x61u8; 1025];
     let mut buf = [0xeeu8; 1100];
-    in_part(version, kind, &text, text_len, 1, &mut buf, room);
+    in_part(out, version, kind, &text, text_len, 1, &mut buf, room)
 }
 
-fn kinds_1() {
-    thrice(b"\x01\x00\x00\x00\x00\x00\x00\x0e\x10\x00");
+fn kinds_1(out: &mut impl Write) -> io::Result<()> {
+    thrice(out, b"\x01\x00\x00\x00\x00\x00\x00\x0e\x10\x00")?;
     thrice(
+        out,
         b"\x02\xa0\xa1\xa2\xa3\xa4\xa5\xa6\xa7\xa8\xa9\xaa\xab\xac\xad\xae\xaf\xb0\xb1\xb2\xb3\xb4\xb5\xb6\xb7\xb8\xb9\xba\xbb\xbc\xbd\xbe\xbf\x05\x76\x6f\x6c\x2d\x31\x04\x02\x01\x00\x00\x00\x00\x00\x00\x04\x00\x00",
-    );
-    thrice(b"\x03\x00\x00\x00\x07\x00\x00\x00\x00\x00\x00\x01\xf4\x00");
+    )?;
     thrice(
+        out,
+        b"\x03\x00\x00\x00\x07\x00\x00\x00\x00\x00\x00\x01\xf4\x00",
+    )?;
+    thrice(
+        out,
         b"\x04\xa0\xa1\xa2\xa3\xa4\xa5\xa6\xa7\xa8\xa9\xaa\xab\xac\xad\xae\xaf\xb0\xb1\xb2\xb3\xb4\xb5\xb6\xb7\xb8\xb9\xba\xbb\xbc\xbd\xbe\xbf\x00\x00\x00\x07\x00",
-    );
+    )
 }
 
-fn kinds_2() {
+fn kinds_2(out: &mut impl Write) -> io::Result<()> {
     thrice(
+        out,
         b"\x05\xa0\xa1\xa2\xa3\xa4\xa5\xa6\xa7\xa8\xa9\xaa\xab\xac\xad\xae\xaf\xb0\xb1\xb2\xb3\xb4\xb5\xb6\xb7\xb8\xb9\xba\xbb\xbc\xbd\xbe\xbf\x00\x00\xff\xff\x00",
-    );
+    )?;
     thrice(
+        out,
         b"\x06\xa0\xa1\xa2\xa3\xa4\xa5\xa6\xa7\xa8\xa9\xaa\xab\xac\xad\xae\xaf\xb0\xb1\xb2\xb3\xb4\xb5\xb6\xb7\xb8\xb9\xba\xbb\xbc\xbd\xbe\xbf\x00\x00\x00\x07\x04\x6a\x6f\x62\x2f\x02\x00\x00\x00\x00\x00\x00\x00\x00\x0a\x00\x00\x00\x00\x00\x00\x00\x14\x00",
-    );
+    )?;
     thrice(
+        out,
         b"\x07\x00\x00\x00\x03\x00\x00\x01\x00\x00\x00\x00\x00\x00\x00\x00\x00\x00\x00\x00\x00\x00\x00\x00\xff\xff\xff\xff\xff\xff\xff\xff\x00",
-    );
+    )?;
     thrice(
+        out,
         b"\x08\xa0\xa1\xa2\xa3\xa4\xa5\xa6\xa7\xa8\xa9\xaa\xab\xac\xad\xae\xaf\xb0\xb1\xb2\xb3\xb4\xb5\xb6\xb7\xb8\xb9\xba\xbb\xbc\xbd\xbe\xbf\xff\xff\xff\xff\x00",
-    );
+    )
 }
 
-fn kinds_3() {
-    thrice(b"\x09\x09\x00\x00\x00\x01\x00");
+fn kinds_3(out: &mut impl Write) -> io::Result<()> {
+    thrice(out, b"\x09\x09\x00\x00\x00\x01\x00")?;
     thrice(
+        out,
         b"\x0a\x03\x05\x6a\x6f\x62\x2f\x61\x00\x00\x00\x00\x00\x00\x00\x0a\x40\x41\x42\x43\x44\x45\x46\x47\x48\x49\x4a\x4b\x4c\x4d\x4e\x4f\x50\x51\x52\x53\x54\x55\x56\x57\x58\x59\x5a\x5b\x5c\x5d\x5e\x5f\x00",
-    );
-    thrice(b"\x0b\x00\x00");
-    thrice(b"\x0c\xff\x00");
+    )?;
+    thrice(out, b"\x0b\x00\x00")?;
+    thrice(out, b"\x0c\xff\x00")
 }
 
-fn kinds_4() {
+fn kinds_4(out: &mut impl Write) -> io::Result<()> {
     thrice(
+        out,
         b"\x0d\xa0\xa1\xa2\xa3\xa4\xa5\xa6\xa7\xa8\xa9\xaa\xab\xac\xad\xae\xaf\xb0\xb1\xb2\xb3\xb4\xb5\xb6\xb7\xb8\xb9\xba\xbb\xbc\xbd\xbe\xbf\x00\x00\x00\x01\x01\x78\x00",
-    );
-    thrice(b"\x0e\x00\x00\x00\x02\x05\x6a\x6f\x62\x2f\x61\x00");
-    thrice(b"\x0f\x00\x00\x04\x00\x00\x00\x00\x00\x00");
-    thrice(b"\x10\x00\x00\x00\x20\x00");
+    )?;
+    thrice(out, b"\x0e\x00\x00\x00\x02\x05\x6a\x6f\x62\x2f\x61\x00")?;
+    thrice(out, b"\x0f\x00\x00\x04\x00\x00\x00\x00\x00\x00")?;
+    thrice(out, b"\x10\x00\x00\x00\x20\x00")
 }
 
-fn damaged_1() {
-    show(b"");
-    show(b"\x00");
-    show(b"\x11\x00\x00\x00\x00\x00\x00\x00\x01");
-    show(b"\xff");
+fn damaged_1(out: &mut impl Write) -> io::Result<()> {
+    show(out, b"")?;
+    show(out, b"\x00")?;
+    show(out, b"\x11\x00\x00\x00\x00\x00\x00\x00\x01")?;
+    show(out, b"\xff")?;
     show(
+        out,
         b"\x02\xa0\xa1\xa2\xa3\xa4\xa5\xa6\xa7\xa8\xa9\xaa\xab\xac\xad\xae\xaf\xb0\xb1\xb2\xb3\xb4\xb5\xb6\xb7\xb8\xb9\xba\xbb\xbc\xbd\xbe",
-    );
+    )?;
     show(
+        out,
         b"\x02\xa0\xa1\xa2\xa3\xa4\xa5\xa6\xa7\xa8\xa9\xaa\xab\xac\xad\xae\xaf\xb0\xb1\xb2\xb3\xb4\xb5\xb6\xb7\xb8\xb9\xba\xbb\xbc\xbd\xbe\xbf\x01\x76\x04\x02\x02\x00\x00\x00\x00\x00\x00\x00\x01",
-    );
+    )
 }
 
-fn damaged_2() {
+fn damaged_2(out: &mut impl Write) -> io::Result<()> {
     show(
+        out,
         b"\x02\xa0\xa1\xa2\xa3\xa4\xa5\xa6\xa7\xa8\xa9\xaa\xab\xac\xad\xae\xaf\xb0\xb1\xb2\xb3\xb4\xb5\xb6\xb7\xb8\xb9\xba\xbb\xbc\xbd\xbe\xbf\x05\x76\x6f\x6c",
-    );
+    )?;
     show(
+        out,
         b"\x02\xa0\xa1\xa2\xa3\xa4\xa5\xa6\xa7\xa8\xa9\xaa\xab\xac\xad\xae\xaf\xb0\xb1\xb2\xb3\xb4\xb5\xb6\xb7\xb8\xb9\xba\xbb\xbc\xbd\xbe\xbf\x01\x76\x04\x02\x01\x00\x00\x00\x00\x00\x00\x00",
-    );
+    )?;
     show(
+        out,
         b"\x02\xa0\xa1\xa2\xa3\xa4\xa5\xa6\xa7\xa8\xa9\xaa\xab\xac\xad\xae\xaf\xb0\xb1\xb2\xb3\xb4\xb5\xb6\xb7\xb8\xb9\xba\xbb\xbc\xbd\xbe\xbf\x01\x76\x04\x02\x00",
-    );
+    )?;
     show(
+        out,
         b"\x07\x00\x00\x00\x03\x00\x03\x00\x00\x00\x00\x00\x00\x00\x00\x00\x00\x00\x00\x00\x00\x00\x00\x01",
-    );
+    )?;
     show(
+        out,
         b"\x07\x00\x00\x00\x03\x02\x70\x2f\x01\x00\x00\x00\x00\x00\x00\x00\x00\x00\x00\x00\x00\x00\x00\x00\x00\x01",
-    );
+    )?;
     show(
+        out,
         b"\x07\x00\x00\x00\x03\x02\x70\x2f\x01\x03\x00\x00\x00\x00\x00\x00\x00\x00\x00\x00\x00\x00\x00\x00\x00\x01",
-    );
+    )
 }
 
-fn damaged_3() {
-    show(b"\x07\x00\x00\x00\x03\x02\x70\x2f");
-    show(b"\x07\x00\x00\x00");
+fn damaged_3(out: &mut impl Write) -> io::Result<()> {
+    show(out, b"\x07\x00\x00\x00\x03\x02\x70\x2f")?;
+    show(out, b"\x07\x00\x00\x00")?;
     show(
+        out,
         b"\x0a\x00\x01\x61\x00\x00\x00\x00\x00\x00\x00\x01\x40\x41\x42\x43\x44\x45\x46\x47\x48\x49\x4a\x4b\x4c\x4d\x4e\x4f\x50\x51\x52\x53\x54\x55\x56\x57\x58\x59\x5a\x5b\x5c\x5d\x5e",
-    );
-    show(b"\x0a\x00\x01\x61\x00\x00\x00\x00\x00\x00\x00");
-    show(b"\x0a\x00\xff\x61");
-    show(b"\x0e\x00\x00\x00\x01");
+    )?;
+    show(out, b"\x0a\x00\x01\x61\x00\x00\x00\x00\x00\x00\x00")?;
+    show(out, b"\x0a\x00\xff\x61")?;
+    show(out, b"\x0e\x00\x00\x00\x01")
 }
 
-fn frames_1() {
-    next(b"");
-    next(b"\x00");
-    next(b"\x00\x00");
-    next(b"\x00\x02\x0b\x01");
-    next(b"\x00\x02\x0b\x01\x00");
-    next(b"\x00\x03\x0b\x01");
-    next(b"\x02\x00\x0b\x01");
-    next(b"\x00\x09\x01\x00\x00\x00\x00\x00\x00\x0e\x10");
+fn frames_1(out: &mut impl Write) -> io::Result<()> {
+    next(out, b"")?;
+    next(out, b"\x00")?;
+    next(out, b"\x00\x00")?;
+    next(out, b"\x00\x02\x0b\x01")?;
+    next(out, b"\x00\x02\x0b\x01\x00")?;
+    next(out, b"\x00\x03\x0b\x01")?;
+    next(out, b"\x02\x00\x0b\x01")?;
+    next(out, b"\x00\x09\x01\x00\x00\x00\x00\x00\x00\x0e\x10")
 }
 
-fn starts_1() {
-    start(b"");
-    start(b"\x00");
-    start(b"\x01");
-    start(b"\x02\x00");
-    start(b"\x03\x00");
-    start(b"\xff");
-    start(b"\x01\x00\x09\x01\x00\x00\x00\x00\x00\x00\x0e\x10");
+fn starts_1(out: &mut impl Write) -> io::Result<()> {
+    start(out, b"")?;
+    start(out, b"\x00")?;
+    start(out, b"\x01")?;
+    start(out, b"\x02\x00")?;
+    start(out, b"\x03\x00")?;
+    start(out, b"\xff")?;
+    start(out, b"\x01\x00\x09\x01\x00\x00\x00\x00\x00\x00\x0e\x10")
 }
 
-fn sizes() {
+fn sizes(out: &mut impl Write) -> io::Result<()> {
     let s = [1u8; 65537];
-    start(&s[..65536]);
-    start(&s);
+    start(out, &s[..65536])?;
+    start(out, &s)
 }
 
-fn writes_1() {
-    written(1, 3, 1, 100);
-    written(2, 3, 1, 100);
-    written(3, 3, 1, 100);
-    written(4, 3, 1, 100);
-    written(5, 3, 1, 100);
-    written(6, 3, 1, 100);
-    written(7, 3, 1, 100);
-    written(8, 3, 1, 100);
+fn writes_1(out: &mut impl Write) -> io::Result<()> {
+    written(out, 1, 3, 1, 100)?;
+    written(out, 2, 3, 1, 100)?;
+    written(out, 3, 3, 1, 100)?;
+    written(out, 4, 3, 1, 100)?;
+    written(out, 5, 3, 1, 100)?;
+    written(out, 6, 3, 1, 100)?;
+    written(out, 7, 3, 1, 100)?;
+    written(out, 8, 3, 1, 100)
 }
 
-fn writes_2() {
-    written(9, 3, 1, 100);
-    written(10, 3, 1, 100);
-    written(11, 3, 1, 100);
-    written(12, 3, 1, 100);
-    written(13, 3, 1, 100);
-    written(14, 3, 1, 100);
-    written(15, 3, 1, 100);
-    written(16, 3, 1, 100);
+fn writes_2(out: &mut impl Write) -> io::Result<()> {
+    written(out, 9, 3, 1, 100)?;
+    written(out, 10, 3, 1, 100)?;
+    written(out, 11, 3, 1, 100)?;
+    written(out, 12, 3, 1, 100)?;
+    written(out, 13, 3, 1, 100)?;
+    written(out, 14, 3, 1, 100)?;
+    written(out, 15, 3, 1, 100)?;
+    written(out, 16, 3, 1, 100)
 }
 
-fn writes_3() {
-    written(0, 3, 1, 100);
-    written(17, 3, 1, 100);
-    written(7, 3, 3, 100);
-    written(1, 3, 3, 100);
-    written(7, 0, 2, 100);
-    written(14, 255, 0, 300);
-    written(14, 256, 0, 300);
-    written(1, 256, 0, 100);
+fn writes_3(out: &mut impl Write) -> io::Result<()> {
+    written(out, 0, 3, 1, 100)?;
+    written(out, 17, 3, 1, 100)?;
+    written(out, 7, 3, 3, 100)?;
+    written(out, 1, 3, 3, 100)?;
+    written(out, 7, 0, 2, 100)?;
+    written(out, 14, 255, 0, 300)?;
+    written(out, 14, 256, 0, 300)?;
+    written(out, 1, 256, 0, 100)
 }
 
-fn writes_4() {
-    written(1, 0, 0, 11);
-    written(1, 0, 0, 10);
-    written(7, 3, 3, 0);
-    written(17, 3, 0, 0);
-    written(14, 256, 0, 0);
+fn writes_4(out: &mut impl Write) -> io::Result<()> {
+    written(out, 1, 0, 0, 11)?;
+    written(out, 1, 0, 0, 10)?;
+    written(out, 7, 3, 3, 0)?;
+    written(out, 17, 3, 0, 0)?;
+    written(out, 14, 256, 0, 0)
 }
 
 // Texts of version 01 have a length of one byte, those of 02 one of two bytes, and at most 1,024.
-fn texts() {
-    look_01(255, 0xff);
-    look_01(256, 0xff);
-    look_02(0, 0x00, 0x00);
-    look_02(255, 0x00, 0xff);
-    look_02(256, 0x01, 0x00);
-    look_02(512, 0x02, 0x00);
-    look_02(1024, 0x04, 0x00);
-    look_02(1025, 0x04, 0x01);
+fn texts(out: &mut impl Write) -> io::Result<()> {
+    look_01(out, 255, 0xff)?;
+    look_01(out, 256, 0xff)?;
+    look_02(out, 0, 0x00, 0x00)?;
+    look_02(out, 255, 0x00, 0xff)?;
+    look_02(out, 256, 0x01, 0x00)?;
+    look_02(out, 512, 0x02, 0x00)?;
+    look_02(out, 1024, 0x04, 0x00)?;
+    look_02(out, 1025, 0x04, 0x01)
 }
 
 // A record of one version is unfit in the other, and the records of one call give the same.
-fn versions() {
-    show(b"\x0e\x00\x00\x00\x02\x05\x6a\x6f\x62\x2f\x61");
-    show_02(b"\x0e\x00\x00\x00\x02\x00\x05\x6a\x6f\x62\x2f\x61");
-    show_02(b"\x0e\x00\x00\x00\x02\x05\x6a\x6f\x62\x2f\x61");
-    show(b"\x0e\x00\x00\x00\x02\x00\x05\x6a\x6f\x62\x2f\x61");
-    show_02(b"\x0e\x00\x00\x00\x02\x00");
-    show_02(b"\x0b\x02");
-    show_02(b"\x11\x02");
+fn versions(out: &mut impl Write) -> io::Result<()> {
+    show(out, b"\x0e\x00\x00\x00\x02\x05\x6a\x6f\x62\x2f\x61")?;
+    show_02(out, b"\x0e\x00\x00\x00\x02\x00\x05\x6a\x6f\x62\x2f\x61")?;
+    show_02(out, b"\x0e\x00\x00\x00\x02\x05\x6a\x6f\x62\x2f\x61")?;
+    show(out, b"\x0e\x00\x00\x00\x02\x00\x05\x6a\x6f\x62\x2f\x61")?;
+    show_02(out, b"\x0e\x00\x00\x00\x02\x00")?;
+    show_02(out, b"\x0b\x02")?;
+    show_02(out, b"\x11\x02")
 }
 
-fn writes_5() {
-    written_as(2, 2, 3, 100);
-    written_as(2, 6, 3, 100);
-    written_as(2, 7, 3, 100);
-    written_as(2, 10, 3, 100);
-    written_as(2, 13, 3, 100);
-    written_as(2, 14, 3, 100);
-    written_as(2, 1, 3, 100);
+fn writes_5(out: &mut impl Write) -> io::Result<()> {
+    written_as(out, 2, 2, 3, 100)?;
+    written_as(out, 2, 6, 3, 100)?;
+    written_as(out, 2, 7, 3, 100)?;
+    written_as(out, 2, 10, 3, 100)?;
+    written_as(out, 2, 13, 3, 100)?;
+    written_as(out, 2, 14, 3, 100)?;
+    written_as(out, 2, 1, 3, 100)
 }
 
-fn writes_6() {
-    written_as(2, 14, 0, 1100);
-    written_as(2, 14, 255, 1100);
-    written_as(2, 14, 256, 1100);
-    written_as(2, 14, 512, 1100);
-    written_as(2, 14, 1024, 1100);
-    written_as(2, 14, 1025, 1100);
-    written_as(2, 14, 1024, 1032);
+fn writes_6(out: &mut impl Write) -> io::Result<()> {
+    written_as(out, 2, 14, 0, 1100)?;
+    written_as(out, 2, 14, 255, 1100)?;
+    written_as(out, 2, 14, 256, 1100)?;
+    written_as(out, 2, 14, 512, 1100)?;
+    written_as(out, 2, 14, 1024, 1100)?;
+    written_as(out, 2, 14, 1025, 1100)?;
+    written_as(out, 2, 14, 1024, 1032)
 }
 
-fn writes_7() {
-    written_as(0, 14, 3, 100);
-    written_as(3, 14, 3, 100);
-    written_as(255, 14, 3, 100);
-    written_as(3, 14, 3, 0);
+fn writes_7(out: &mut impl Write) -> io::Result<()> {
+    written_as(out, 0, 14, 3, 100)?;
+    written_as(out, 3, 14, 3, 100)?;
+    written_as(out, 255, 14, 3, 100)?;
+    written_as(out, 3, 14, 3, 0)
 }
 
-fn main() {
-    kinds_1();
-    kinds_2();
-    kinds_3();
-    kinds_4();
-    damaged_1();
-    damaged_2();
-    damaged_3();
-    frames_1();
-    starts_1();
-    sizes();
-    writes_1();
-    writes_2();
-    writes_3();
-    writes_4();
-    texts();
-    versions();
-    writes_5();
-    writes_6();
-    writes_7();
+fn main(rt: HostRuntime) -> io::Result<()> {
+    let mut writer = BufWriter::new(rt.alloc(), io::writer(&rt))?;
+    let out = &mut writer;
+    kinds_1(out)?;
+    kinds_2(out)?;
+    kinds_3(out)?;
+    kinds_4(out)?;
+    damaged_1(out)?;
+    damaged_2(out)?;
+    damaged_3(out)?;
+    frames_1(out)?;
+    starts_1(out)?;
+    sizes(out)?;
+    writes_1(out)?;
+    writes_2(out)?;
+    writes_3(out)?;
+    writes_4(out)?;
+    texts(out)?;
+    versions(out)?;
+    writes_5(out)?;
+    writes_6(out)?;
+    writes_7(out)?;
+    out.flush()
 }

@@ -1,75 +1,52 @@
 // Replays a journal on a fresh desk and prints its transcript, and nothing else, on standard output. The journal is read from
 // standard input, or from the file that the one argument names. What is printed is what `transcripts::replay_into` writes; this
-// program reads the bytes and writes them out.
+// program reads the bytes and writes them out. What fails is said in one line on standard error.
 #![tactic(auto)]
 
-ghost use Rattle.std.specs.Prelude.{◌≡◌, ◌≤◌, length};
+ghost use Rattle.std.specs.Prelude.{◌≡◌, ◌≤◌, length, IfOk};
 
-use libc::{STDERR_FILENO, STDIN_FILENO, STDOUT_FILENO};
+use std::io::Read;
+use std::{env, fs, io};
 
-// What one read gave: so many bytes, none at the end of the input, or that it failed.
-#[derive(Clone, Copy)]
-struct Got {
-    failed: bool,
-    bytes: usize,
-}
-
-fn read_some(fd: i32, buf: &mut [u8]) -> Got
-    ensures* { do ⌜ result.bytes ≤ (← (⟦buf.len()⟧).entry) ⌝ }
+// One read: how many bytes it gave, none at the end of the input.
+fn read_some(input: &mut impl Read, buf: &mut [u8]) -> io::Result<usize>
+    ensures { IfOk result (λ n. n ≤ length buf.old) }
 {
-    let got = libc::read(fd, buf);
-    if got < 0 {
-        return Got {
-            failed: true,
-            bytes: 0,
-        };
-    }
-    let bytes = io::count(got, buf);
-    Got {
-        failed: false,
-        bytes,
-    }
+    input.read(buf)
 }
 
-// Reads until the buffer is full or the input ends: all bytes that were read, or that a read failed.
-fn read_all(fd: i32, buf: &mut [u8]) -> Got
-    ensures* { do ⌜ result.bytes ≤ (← (⟦buf.len()⟧).entry) ⌝ }
+// Reads until the buffer is full or the input ends: how many bytes were read.
+fn read_all(input: &mut impl Read, buf: &mut [u8]) -> io::Result<usize>
+    ensures { IfOk result (λ n. n ≤ length buf.old) }
 {
     let mut n: usize = 0;
     while n < buf.len() {
-        let got = read_some(fd, &mut buf[n..]);
-        if got.failed {
-            return Got {
-                failed: true,
-                bytes: n,
-            };
+        let got = read_some(input, &mut buf[n..])?;
+        if got == 0 {
+            return Ok(n);
         }
-        if got.bytes == 0 {
-            return Got {
-                failed: false,
-                bytes: n,
-            };
-        }
-        n += got.bytes;
+        n += got;
     }
-    Got {
-        failed: false,
-        bytes: n,
-    }
+    Ok(n)
 }
 
-// Prints the transcript of the journal that an open file holds, by way of two buffers. `name` is for the error.
-fn replay_by(fd: i32, name: &[u8], journal: &mut [u8], out: &mut [u8]) {
-    let got = read_all(fd, journal);
-    if got.failed {
-        os::fail(name);
-        return;
-    }
-    let n = got.bytes;
+// Prints the transcript of the journal that an input holds, by way of two buffers. `name` is for the error.
+fn replay_by(
+    rt: &(impl Print + Eprint),
+    input: &mut impl Read,
+    name: &str,
+    journal: &mut [u8],
+    out: &mut [u8],
+) -> io::Result<()> {
+    let n = match read_all(input, journal) {
+        Ok(n) => n,
+        Err(error) => return eprintln!(rt; "{name}: {error}"),
+    };
     let written = transcripts::replay_into(&journal[..n], out);
     let len = written.len;
-    if !io::write_all(STDOUT_FILENO, &out[..len]) {
-        os::fail(b"standard output");
+    match rt.write_all(&out[..len]) {
+        Ok(()) => Ok(()),
+        Err(error) => eprintln!(rt; "standard output: {error}"),
     }
 }
 
@@ -87,33 +64,26 @@ fn transcript_buffer() -> [u8; 655381]
     [0; 655381]
 }
 
-fn replay(fd: i32, name: &[u8]) {
+fn replay(rt: &(impl Print + Eprint), input: &mut impl Read, name: &str) -> io::Result<()> {
     let mut journal = journal_buffer();
     let mut out = transcript_buffer();
-    replay_by(fd, name, &mut journal, &mut out);
+    replay_by(rt, input, name, &mut journal, &mut out)
 }
 
-fn main() {
-    let count = os::arg_count();
-    if 2 < count {
-        io::write_all(STDERR_FILENO, b"usage: replay [FILE]\n");
-        return;
+fn main(rt: HostRuntime) -> io::Result<()> {
+    let mut args = match env::args(&rt) {
+        Ok(args) => args,
+        Err(error) => return eprintln!(rt; "the file's name: {error}"),
+    };
+    if 2 < args.len() {
+        return eprintln!(rt; "usage: replay [FILE]");
     }
-    if count < 2 {
-        replay(STDIN_FILENO, b"standard input");
-        return;
+    args.next();
+    match args.next() {
+        None => replay(&rt, &mut rt.stdin(), "standard input"),
+        Some(path) => match fs::open(&rt, &path) {
+            Ok(mut file) => replay(&rt, &mut file, path.as_str()),
+            Err(error) => eprintln!(rt; "{path}: {error}"),
+        },
     }
-    let mut path = io::buffer();
-    let n = os::arg(1, &mut path);
-    if os::errno() != 0 {
-        os::fail(b"the file's name");
-        return;
-    }
-    let fd = os::open_read(&path[..n]);
-    if fd < 0 {
-        os::fail(&path[..n]);
-        return;
-    }
-    replay(fd, &path[..n]);
-    libc::close(fd);
 }

@@ -4,38 +4,39 @@
 
 ghost use Rattle.std.specs.Prelude.{◌≡◌, length};
 
-use libc::STDOUT_FILENO;
+use std::io;
+use std::io::{BufWriter, Write};
 
-fn word(s: &[u8]) {
-    io::write_all(STDOUT_FILENO, s);
+fn word(output: &mut impl Write, s: &[u8]) -> io::Result<()> {
+    output.write_all(s)
 }
 
-fn number(n: u64) {
-    io::print_decimal(STDOUT_FILENO, n);
+fn number(output: &mut impl Write, n: u64) -> io::Result<()> {
+    write!(output, "{n}")
 }
 
 // The bytes from `from` up to `to`, or none.
-fn part(s: &[u8], from: usize, to: usize) {
+fn part(output: &mut impl Write, s: &[u8], from: usize, to: usize) -> io::Result<()> {
     if s.len() < to {
-        return;
+        return Ok(());
     }
     if to < from {
-        return;
+        return Ok(());
     }
-    word(&s[from..to]);
+    word(output, &s[from..to])
 }
 
 // A name, and the transcript of a journal.
-fn show_in(name: &[u8], journal: &[u8], out: &mut [u8]) {
+fn show_in(output: &mut impl Write, name: &[u8], journal: &[u8], out: &mut [u8]) -> io::Result<()> {
     let w = transcripts::replay_into(journal, out);
-    word(name);
-    word(b"\n");
-    part(out, 0, w.len);
+    word(output, name)?;
+    word(output, b"\n")?;
+    part(output, out, 0, w.len)
 }
 
-fn show(name: &[u8], journal: &[u8]) {
-    let mut out = io::buffer();
-    show_in(name, journal, &mut out);
+fn show(output: &mut impl Write, name: &[u8], journal: &[u8]) -> io::Result<()> {
+    let mut out = [0u8; 4096];
+    show_in(output, name, journal, &mut out)
 }
 
 fn wide(b: u8) -> u64 {
@@ -43,18 +44,23 @@ fn wide(b: u8) -> u64 {
 }
 
 // What a replay answers, and the first byte of the buffer after it.
-fn show_answer(name: &[u8], journal: &[u8], out: &mut [u8]) {
+fn show_answer(
+    output: &mut impl Write,
+    name: &[u8],
+    journal: &[u8],
+    out: &mut [u8],
+) -> io::Result<()> {
     if out.len() == 0 {
-        return;
+        return Ok(());
     }
     let w = transcripts::replay_into(journal, out);
-    word(name);
-    number(w.number as u64);
-    word(b" ");
-    number(w.len as u64);
-    word(b", first byte ");
-    number(wide(out[0]));
-    word(b"\n");
+    word(output, name)?;
+    number(output, w.number as u64)?;
+    word(output, b" ")?;
+    number(output, w.len as u64)?;
+    word(output, b", first byte ")?;
+    number(output, wide(out[0]))?;
+    word(output, b"\n")
 }
 
 // A record again and again from a place to the end of the buffer.
@@ -62,15 +68,13 @@ fn fill(buf: &mut [u8], from: usize, bytes: &[u8]) {
     if bytes.len() == 0 {
         return;
     }
-    let mut i = from;
     let mut k: usize = 0;
-    while i < buf.len() {
+    for i in from..buf.len() {
         buf[i] = bytes[k];
         k += 1;
         if k == bytes.len() {
             k = 0;
         }
-        i += 1;
     }
 }
 
@@ -82,36 +86,47 @@ fn full(buf: &mut [u8]) {
 }
 
 // The number of bytes written, and the last 14 of them.
-fn show_end(name: &[u8], journal: &[u8], out: &mut [u8]) {
+fn show_end(
+    output: &mut impl Write,
+    name: &[u8],
+    journal: &[u8],
+    out: &mut [u8],
+) -> io::Result<()> {
     let w = transcripts::replay_into(journal, out);
-    word(name);
-    word(b": ");
-    number(w.len as u64);
-    word(b" bytes, of which the last are\n");
+    word(output, name)?;
+    word(output, b": ")?;
+    number(output, w.len as u64)?;
+    word(output, b" bytes, of which the last are\n")?;
     if w.len < 14 {
-        part(out, 0, w.len);
-        return;
+        return part(output, out, 0, w.len);
     }
-    part(out, w.len - 14, w.len);
+    part(output, out, w.len - 14, w.len)
 }
 
 // The same of the first n bytes.
-fn show_first(name: &[u8], journal: &[u8], n: usize, out: &mut [u8]) {
+fn show_first(
+    output: &mut impl Write,
+    name: &[u8],
+    journal: &[u8],
+    n: usize,
+    out: &mut [u8],
+) -> io::Result<()> {
     if journal.len() < n {
-        return;
+        return Ok(());
     }
-    show_end(name, &journal[..n], out);
+    show_end(output, name, &journal[..n], out)
 }
 
-fn show_full(journal: &[u8], out: &mut [u8]) {
-    show_first(b"a journal of 65,536 bytes", journal, 65536, out);
+fn show_full(output: &mut impl Write, journal: &[u8], out: &mut [u8]) -> io::Result<()> {
+    show_first(output, b"a journal of 65,536 bytes", journal, 65536, out)?;
     show_first(
+        output,
         b"one byte less, so that the last record is cut",
         journal,
         65535,
         out,
-    );
-    show_first(b"one byte more", journal, 65537, out);
+    )?;
+    show_first(output, b"one byte more", journal, 65537, out)
 }
 
 fn journal_buffer() -> [u8; 65537]
@@ -127,62 +142,84 @@ fn transcript_buffer() -> [u8; 655381]
 }
 
 // Each fault of the frame.
-fn faults() {
-    show(b"no byte", b"");
-    show(b"version 00", b"\x00");
-    show(b"version 03", b"\x03\x00\x05\x10\x00\x00\x00\x01");
-    show(b"version 02", b"\x02\x00\x05\x10\x00\x00\x00\x01");
-    show(b"version 02 alone", b"\x02");
+fn faults(output: &mut impl Write) -> io::Result<()> {
+    show(output, b"no byte", b"")?;
+    show(output, b"version 00", b"\x00")?;
+    show(output, b"version 03", b"\x03\x00\x05\x10\x00\x00\x00\x01")?;
+    show(output, b"version 02", b"\x02\x00\x05\x10\x00\x00\x00\x01")?;
+    show(output, b"version 02 alone", b"\x02")?;
     show(
+        output,
         b"a look of version 01 in a journal of version 02",
         b"\x02\x00\x08\x0e\x00\x00\x00\x01\x02\x61\x62",
-    );
+    )?;
     show(
+        output,
         b"and of version 02",
         b"\x02\x00\x09\x0e\x00\x00\x00\x01\x00\x02\x61\x62",
-    );
-    show(b"the version alone", b"\x01");
-    show(b"a lone byte after it", b"\x01\x00");
-    show(b"a record of length 0", b"\x01\x00\x00");
-    show(b"a record that is cut", b"\x01\x00\x05\x10\x00\x00\x00");
-    show(b"an unknown kind", b"\x01\x00\x05\x11\x00\x00\x00\x01");
-    show(b"kind 00", b"\x01\x00\x05\x00\x00\x00\x00\x01");
+    )?;
+    show(output, b"the version alone", b"\x01")?;
+    show(output, b"a lone byte after it", b"\x01\x00")?;
+    show(output, b"a record of length 0", b"\x01\x00\x00")?;
     show(
+        output,
+        b"a record that is cut",
+        b"\x01\x00\x05\x10\x00\x00\x00",
+    )?;
+    show(
+        output,
+        b"an unknown kind",
+        b"\x01\x00\x05\x11\x00\x00\x00\x01",
+    )?;
+    show(output, b"kind 00", b"\x01\x00\x05\x00\x00\x00\x00\x01")?;
+    show(
+        output,
         b"a length one too long",
         b"\x01\x00\x06\x10\x00\x00\x00\x01\x00",
-    );
-    show(b"a length one too short", b"\x01\x00\x04\x10\x00\x00\x00");
+    )?;
     show(
+        output,
+        b"a length one too short",
+        b"\x01\x00\x04\x10\x00\x00\x00",
+    )?;
+    show(
+        output,
         b"two records, and a lone byte",
         b"\x01\x00\x05\x10\x00\x00\x00\x01\x00\x09\x0f\x00\x00\x00\x00\x00\x00\x00\x07\xff",
-    );
+    )
 }
 
 // A journal of 12 bytes wants a buffer of 141.
-fn rooms() {
+fn rooms(output: &mut impl Write) -> io::Result<()> {
     let mut short = [0u8; 140];
     let mut enough = [0u8; 141];
     show_answer(
+        output,
         b"a buffer of one byte too few: ",
         b"\x01\x00\x09\x01\x00\x00\x00\x00\x00\x00\x0e\x10",
         &mut short,
-    );
+    )?;
     show_answer(
+        output,
         b"and of just enough: ",
         b"\x01\x00\x09\x01\x00\x00\x00\x00\x00\x00\x0e\x10",
         &mut enough,
-    );
+    )
 }
 
-fn main() {
+fn main(rt: HostRuntime) -> io::Result<()> {
+    let mut writer = BufWriter::new(rt.alloc(), io::writer(&rt))?;
+    let output = &mut writer;
     show(
+        output,
         b"the whole case of the paper",
         b"\x01\x00\x09\x01\x00\x00\x00\x00\x00\x00\x0e\x10",
-    );
-    faults();
-    rooms();
+    )?;
+    faults(output)?;
+    rooms(output)?;
     let mut journal = journal_buffer();
     let mut out = transcript_buffer();
     full(&mut journal);
-    show_full(&journal, &mut out);
+    show_full(output, &journal, &mut out)?;
+    output.flush()
 }

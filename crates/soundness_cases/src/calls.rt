@@ -5,6 +5,8 @@ use super::full;
 use amount::Cap;
 use rules::{Account, Desk, Mode, Outcome, RelayNo, TokenNo, VolumeNo};
 use soundness::is_sound;
+use std::io;
+use std::io::Write;
 
 // How many calls there are.
 const CALLS: usize = 16;
@@ -84,49 +86,48 @@ fn call(i: usize, d: Desk) -> Outcome {
     }
 }
 
-fn write_later_name(i: usize) -> bool {
+fn write_later_name(out: &mut impl Write, i: usize) -> io::Result<()> {
     match i {
-        7 => io::write_all(1, b"advance"),
-        8 => io::write_all(1, b"deposit"),
-        9 => io::write_all(1, b"delete"),
-        10 => io::write_all(1, b"undelete"),
-        11 => io::write_all(1, b"grant"),
-        12 => io::write_all(1, b"attenuate"),
-        13 => io::write_all(1, b"revoke"),
-        14 => io::write_all(1, b"commit"),
-        _ => io::write_all(1, b"remove"),
+        7 => out.write_all(b"advance"),
+        8 => out.write_all(b"deposit"),
+        9 => out.write_all(b"delete"),
+        10 => out.write_all(b"undelete"),
+        11 => out.write_all(b"grant"),
+        12 => out.write_all(b"attenuate"),
+        13 => out.write_all(b"revoke"),
+        14 => out.write_all(b"commit"),
+        _ => out.write_all(b"remove"),
     }
 }
 
-fn write_name(i: usize) -> bool {
+fn write_name(out: &mut impl Write, i: usize) -> io::Result<()> {
     match i {
-        0 => io::write_all(1, b"register"),
-        1 => io::write_all(1, b"heartbeat"),
-        2 => io::write_all(1, b"create"),
-        3 => io::write_all(1, b"look"),
-        4 => io::write_all(1, b"open"),
-        5 => io::write_all(1, b"stage"),
-        6 => io::write_all(1, b"abandon"),
-        _ => write_later_name(i),
+        0 => out.write_all(b"register"),
+        1 => out.write_all(b"heartbeat"),
+        2 => out.write_all(b"create"),
+        3 => out.write_all(b"look"),
+        4 => out.write_all(b"open"),
+        5 => out.write_all(b"stage"),
+        6 => out.write_all(b"abandon"),
+        _ => write_later_name(out, i),
     }
 }
 
 // The call's name and answer, a value other than 0, and whether the desk comes back changed.
-fn write_call(i: usize, d: Desk) {
+fn write_call(out: &mut impl Write, i: usize, d: Desk) -> io::Result<()> {
     let o = call(i, d);
     let answer = o.answer;
     let after = o.desk;
-    io::write_all(1, b", ");
-    write_name(i);
-    io::write_all(1, b" ");
-    io::print_decimal(1, answer.number as u64);
+    out.write_all(b", ")?;
+    write_name(out, i)?;
+    write!(out, " {}", answer.number)?;
     if answer.value != 0 {
-        io::write_all(1, b" value ");
-        io::print_decimal(1, answer.value);
+        write!(out, " value {}", answer.value)?;
     }
     if !same_desk(d, after) {
-        io::write_all(1, b" desk changed");
+        out.write_all(b" desk changed")?;
     }
+    Ok(())
 }
 
 // Whether the call answers 1 with value 0 and gives the desk back as it went in.
@@ -143,39 +144,37 @@ fn is_refused(i: usize, d: Desk) -> bool {
     same_desk(d, after)
 }
 
-fn write_calls(d: Desk) {
-    let mut i: usize = 0;
-    while i < CALLS {
-        write_call(i, d);
-        i += 1;
+fn write_calls(out: &mut impl Write, d: Desk) -> io::Result<()> {
+    for i in 0..CALLS {
+        write_call(out, i, d)?;
     }
+    Ok(())
 }
 
 // Of a desk that is not sound: the calls that do other than refuse it, or that there is none.
-fn write_others(d: Desk) {
+fn write_others(out: &mut impl Write, d: Desk) -> io::Result<()> {
     let mut none = true;
-    let mut i: usize = 0;
-    while i < CALLS {
+    for i in 0..CALLS {
         if !is_refused(i, d) {
-            write_call(i, d);
+            write_call(out, i, d)?;
             none = false;
         }
-        i += 1;
     }
     if none {
-        io::write_all(1, b", all 16 calls answer 1, desk unchanged");
+        out.write_all(b", all 16 calls answer 1, desk unchanged")?;
     }
+    Ok(())
 }
 
 // Prints whether the desk is sound, and what the calls on it answer: 1 before all else where it is not.
-pub(crate) fn show(part: &[u8], d: Desk) {
-    io::write_all(1, part);
+pub(crate) fn show(out: &mut impl Write, part: &[u8], d: Desk) -> io::Result<()> {
+    out.write_all(part)?;
     if is_sound(d) {
-        io::write_all(1, b": sound");
-        write_calls(d);
+        out.write_all(b": sound")?;
+        write_calls(out, d)?;
     } else {
-        io::write_all(1, b": not sound");
-        write_others(d);
+        out.write_all(b": not sound")?;
+        write_others(out, d)?;
     }
-    io::write_all(1, b"\n");
+    out.write_all(b"\n")
 }

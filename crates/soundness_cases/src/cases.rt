@@ -5,6 +5,8 @@ use amount::Cap;
 use rules::{
     Account, Desk, Entry, Relay, RelayNo, Session, Status, Tables, Token, TokenNo, Volume, VolumeNo,
 };
+use std::io;
+use std::io::Write;
 use text::Text;
 use text::name::Name;
 
@@ -45,238 +47,248 @@ fn with_session(d: Desk, s: Session) -> Desk {
     next
 }
 
-pub(crate) fn counts(d: Desk) {
+pub(crate) fn counts(out: &mut impl Write, d: Desk) -> io::Result<()> {
     let mut t = d.tables;
     t.clock = 1099511627777;
-    show(b"a clock above 2^40", with_tables(d, t));
+    show(out, b"a clock above 2^40", with_tables(d, t))?;
     let mut t = d.tables;
     t.deposits = 1000000000000000001;
-    show(b"deposits above 10^18", with_tables(d, t));
+    show(out, b"deposits above 10^18", with_tables(d, t))?;
     let mut t = d.tables;
     t.last_volume = 65536;
-    show(b"a volume number above 65,535", with_tables(d, t));
+    show(out, b"a volume number above 65,535", with_tables(d, t))?;
     let mut t = d.tables;
     t.last_token = 65536;
-    show(b"a token number above 65,535", with_tables(d, t));
+    show(out, b"a token number above 65,535", with_tables(d, t))?;
     let mut t = d.tables;
     t.last_relay = 65536;
-    show(b"a relay number above 65,535", with_tables(d, t));
+    show(out, b"a relay number above 65,535", with_tables(d, t))
 }
 
-pub(crate) fn volumes(d: Desk) {
+pub(crate) fn volumes(out: &mut impl Write, d: Desk) -> io::Result<()> {
     let h = full::name(b'h');
     let v = full::volume(9, h, Cap::Unlimited, Status::Active);
-    show(b"a volume number not yet given", with_volume(d, v));
+    show(out, b"a volume number not yet given", with_volume(d, v))?;
     let long = Name {
         bytes: [b'h'; 64],
         len: 65,
     };
     let v = full::volume(8, long, Cap::Unlimited, Status::Active);
-    show(b"a volume name of 65 bytes", with_volume(d, v));
+    show(out, b"a volume name of 65 bytes", with_volume(d, v))?;
     let mut v = full::volume(8, h, Cap::Unlimited, Status::Active);
     v.k = 17;
-    show(b"K 17", with_volume(d, v));
+    show(out, b"K 17", with_volume(d, v))?;
     let mut v = full::volume(8, h, Cap::Unlimited, Status::Active);
     v.m = 0;
-    show(b"M 0", with_volume(d, v));
+    show(out, b"M 0", with_volume(d, v))?;
     let v = full::volume(8, h, Cap::Bytes(68719476737), Status::Active);
-    show(b"a volume cap above 2^36", with_volume(d, v));
+    show(out, b"a volume cap above 2^36", with_volume(d, v))?;
     let mut v = full::volume(8, h, Cap::Unlimited, Status::Active);
     v.balance = 1000000000000001;
-    show(b"a balance above 10^15", with_volume(d, v));
+    show(out, b"a balance above 10^15", with_volume(d, v))
 }
 
-pub(crate) fn statuses(d: Desk) {
+pub(crate) fn statuses(out: &mut impl Write, d: Desk) -> io::Result<()> {
     let h = full::name(b'h');
     let mut v = full::volume(8, h, Cap::Unlimited, Status::Active);
     v.grace = 1;
-    show(b"ACTIVE with grace count 1", with_volume(d, v));
+    show(out, b"ACTIVE with grace count 1", with_volume(d, v))?;
     let v = full::volume(8, h, Cap::Unlimited, Status::Grace);
-    show(b"GRACE_PERIOD with grace count 0", with_volume(d, v));
+    show(out, b"GRACE_PERIOD with grace count 0", with_volume(d, v))?;
     let mut v = full::volume(8, h, Cap::Unlimited, Status::Grace);
     v.grace = 3;
-    show(b"GRACE_PERIOD with grace count 3", with_volume(d, v));
+    show(out, b"GRACE_PERIOD with grace count 3", with_volume(d, v))?;
     let mut v = full::volume(8, h, Cap::Unlimited, Status::Deleted);
     v.grace = 3;
-    show(b"DELETED with grace count 3", with_volume(d, v));
+    show(out, b"DELETED with grace count 3", with_volume(d, v))?;
     let mut v = full::volume(8, h, Cap::Unlimited, Status::Deleted);
     v.deleted = 51;
-    show(b"a delete after the clock", with_volume(d, v));
+    show(out, b"a delete after the clock", with_volume(d, v))?;
     let mut v = full::volume(8, h, Cap::Unlimited, Status::Active);
     v.deleted = 51;
     show(
+        out,
         b"ACTIVE with a delete block after the clock",
         with_volume(d, v),
-    );
+    )
 }
 
-pub(crate) fn names(d: Desk) {
+pub(crate) fn names(out: &mut impl Write, d: Desk) -> io::Result<()> {
     let h = full::name(b'h');
     let a = full::name(b'a');
     let v = full::volume(7, h, Cap::Unlimited, Status::Active);
-    show(b"a volume number held twice", with_volume(d, v));
+    show(out, b"a volume number held twice", with_volume(d, v))?;
     let v = full::volume(8, a, Cap::Unlimited, Status::Active);
-    show(b"an owner's volume name held twice", with_volume(d, v));
+    show(out, b"an owner's volume name held twice", with_volume(d, v))?;
     let bytes = [9u8; 32];
     let other = Account(bytes);
     let mut v = full::volume(8, a, Cap::Unlimited, Status::Active);
     v.owner = other;
-    show(b"the same name of another owner", with_volume(d, v));
+    show(out, b"the same name of another owner", with_volume(d, v))
 }
 
-pub(crate) fn entries(d: Desk) {
+pub(crate) fn entries(out: &mut impl Write, d: Desk) -> io::Result<()> {
     let slash = full::path(b'z', b'/');
     let e = full::entry(1, slash);
-    show(b"a path that ends with a slash", with_entry(d, e));
+    show(out, b"a path that ends with a slash", with_entry(d, e))?;
     let mut longer = full::path(b'z', b'z');
     longer.len = 513;
     let e = full::entry(1, longer);
-    show(b"a path of 513 bytes", with_entry(d, e));
+    show(out, b"a path of 513 bytes", with_entry(d, e))?;
     let path = full::path(b'z', b'z');
     let mut e = full::entry(1, path);
     e.size = 68719476737;
-    show(b"a size above 2^36", with_entry(d, e));
+    show(out, b"a size above 2^36", with_entry(d, e))?;
     let e = full::entry(9, path);
-    show(b"an entry's volume not in the table", with_entry(d, e));
+    show(out, b"an entry's volume not in the table", with_entry(d, e))?;
     let first = full::path(b'a', b'0');
     let e = full::entry(1, first);
-    show(b"a volume's path held twice", with_entry(d, e));
+    show(out, b"a volume's path held twice", with_entry(d, e))?;
     let e = full::entry(2, first);
-    show(b"the same path in another volume", with_entry(d, e));
+    show(out, b"the same path in another volume", with_entry(d, e))
 }
 
-pub(crate) fn placements(d: Desk) {
+pub(crate) fn placements(out: &mut impl Write, d: Desk) -> io::Result<()> {
     let path = full::path(b'z', b'z');
     let mut p = full::placement();
     p.len = 23;
     let mut e = full::entry(1, path);
     e.placement = p;
-    show(b"a placement of 23 relays", with_entry(d, e));
+    show(out, b"a placement of 23 relays", with_entry(d, e))?;
     let mut p = full::placement();
     p.relays[0] = RelayNo(33);
     let mut e = full::entry(1, path);
     e.placement = p;
     show(
+        out,
         b"a placement with a relay number not yet given",
         with_entry(d, e),
-    );
+    )?;
     let mut p = full::placement();
     p.relays[0] = RelayNo(2);
     let mut e = full::entry(1, path);
     e.placement = p;
-    show(b"a placement with one relay twice", with_entry(d, e));
+    show(out, b"a placement with one relay twice", with_entry(d, e))
 }
 
-pub(crate) fn tokens(d: Desk) {
+pub(crate) fn tokens(out: &mut impl Write, d: Desk) -> io::Result<()> {
     let k = full::token(33, 31, Cap::Unlimited);
-    show(b"a token number not yet given", with_token(d, k));
+    show(out, b"a token number not yet given", with_token(d, k))?;
     let word = text::to_text(b"w");
     let mut k = full::token(32, 31, Cap::Unlimited);
     let mut scope = k.scope;
     scope.prefix = word;
     k.scope = scope;
-    show(b"a prefix with no slash", with_token(d, k));
+    show(out, b"a prefix with no slash", with_token(d, k))?;
     let k = full::token(32, 31, Cap::Bytes(68719476737));
-    show(b"a token cap above 2^36", with_token(d, k));
+    show(out, b"a token cap above 2^36", with_token(d, k))?;
     let mut k = full::token(32, 31, Cap::Unlimited);
     k.scope.from = 101;
-    show(b"from after until", with_token(d, k));
+    show(out, b"from after until", with_token(d, k))?;
     let mut k = full::token(32, 31, Cap::Unlimited);
     let no = VolumeNo(9);
     k.volume = no;
-    show(b"a token's volume not in the table", with_token(d, k));
+    show(out, b"a token's volume not in the table", with_token(d, k))?;
     let k = full::token(32, 33, Cap::Unlimited);
-    show(b"a parent not in the table", with_token(d, k));
+    show(out, b"a parent not in the table", with_token(d, k))?;
     let mut k = full::token(32, 31, Cap::Unlimited);
     k.used = 1152921504606846977;
-    show(b"used bytes of a token above 2^60", with_token(d, k));
+    show(out, b"used bytes of a token above 2^60", with_token(d, k))?;
     let k = full::token(30, 0, Cap::Unlimited);
-    show(b"a token number held twice", with_token(d, k));
+    show(out, b"a token number held twice", with_token(d, k))
 }
 
-pub(crate) fn chains(d: Desk) {
+pub(crate) fn chains(out: &mut impl Write, d: Desk) -> io::Result<()> {
     let mut t = d.tables;
     t.tokens[24] = full::token(25, 32, Cap::Unlimited);
-    show(b"a parent chain in a ring", with_tables(d, t));
+    show(out, b"a parent chain in a ring", with_tables(d, t))?;
     let mut t = d.tables;
     t.tokens[24] = full::token(25, 25, Cap::Unlimited);
-    show(b"a token that is its own parent", with_tables(d, t));
+    show(out, b"a token that is its own parent", with_tables(d, t))?;
     let mut t = d.tables;
     t.tokens[24] = full::token(25, 1, Cap::Unlimited);
-    show(b"a parent chain of 9 tokens", with_tables(d, t));
+    show(out, b"a parent chain of 9 tokens", with_tables(d, t))?;
     let mut t = d.tables;
     t.tokens[24] = full::token(25, 0, Cap::Unlimited);
-    show(b"the chain of 8 tokens", with_tables(d, t));
+    show(out, b"the chain of 8 tokens", with_tables(d, t))
 }
 
-pub(crate) fn relays(d: Desk) {
+pub(crate) fn relays(out: &mut impl Write, d: Desk) -> io::Result<()> {
     let r = full::relay(33, 0);
-    show(b"a relay number not yet given", with_relay(d, r));
+    show(out, b"a relay number not yet given", with_relay(d, r))?;
     let mut r = full::relay(32, 0);
     r.capacity = 4398046511105;
-    show(b"a capacity above 2^42", with_relay(d, r));
+    show(out, b"a capacity above 2^42", with_relay(d, r))?;
     let mut t = d.tables;
     let mut first = full::relay(1, 64);
     first.capacity = 63;
     t.relays[0] = first;
-    show(b"used bytes above the capacity", with_tables(d, t));
+    show(out, b"used bytes above the capacity", with_tables(d, t))?;
     let mut r = full::relay(32, 0);
     r.beat = 51;
-    show(b"a heartbeat after the clock", with_relay(d, r));
+    show(out, b"a heartbeat after the clock", with_relay(d, r))?;
     let mut r = full::relay(32, 0);
     r.used = 1;
     show(
+        out,
         b"used bytes other than the placements give",
         with_relay(d, r),
-    );
+    )?;
     let mut r = full::relay(32, 0);
     r.held = 1;
     show(
+        out,
         b"held shards other than the placements give",
         with_relay(d, r),
-    );
+    )?;
     let r = full::relay(31, 0);
-    show(b"a relay number held twice", with_relay(d, r));
+    show(out, b"a relay number held twice", with_relay(d, r))
 }
 
-pub(crate) fn sessions(d: Desk) {
+pub(crate) fn sessions(out: &mut impl Write, d: Desk) -> io::Result<()> {
     let mut s = full::session();
     let no = TokenNo(33);
     s.token = no;
     show(
+        out,
         b"a session's token number not yet given",
         with_session(d, s),
-    );
+    )?;
     let mut s = full::session();
     let no = VolumeNo(9);
     s.volume = no;
     show(
+        out,
         b"a session's volume number not yet given",
         with_session(d, s),
-    );
+    )?;
     let mut s = full::session();
     s.count = 9;
-    show(b"9 staged puts", with_session(d, s));
+    show(out, b"9 staged puts", with_session(d, s))?;
     let slash = full::path(b'z', b'/');
     let mut s = full::session();
     s.puts[0] = full::put(slash);
-    show(b"a staged path that ends with a slash", with_session(d, s));
+    show(
+        out,
+        b"a staged path that ends with a slash",
+        with_session(d, s),
+    )?;
     let path = full::path(b'z', b'z');
     let mut large = full::put(path);
     large.size = 68719476737;
     let mut s = full::session();
     s.puts[0] = large;
-    show(b"a staged size above 2^36", with_session(d, s));
+    show(out, b"a staged size above 2^36", with_session(d, s))?;
     let again = full::path(b's', b'h');
     let mut s = full::session();
     s.puts[0] = full::put(again);
-    show(b"a session's path held twice", with_session(d, s));
+    show(out, b"a session's path held twice", with_session(d, s))
 }
 
 // Free rows and an idle slot, whatever else they hold.
-pub(crate) fn free_rows(rate: u16) {
+pub(crate) fn free_rows(out: &mut impl Write, rate: u16) -> io::Result<()> {
     let fresh = rules::fresh(rate);
-    show(b"the fresh desk", fresh);
+    show(out, b"the fresh desk", fresh)?;
     let junk = Text {
         bytes: [0u8; 512],
         len: 999,
@@ -302,7 +314,8 @@ pub(crate) fn free_rows(rate: u16) {
     s.token = no;
     s.count = 9;
     show(
+        out,
         b"free rows and an idle slot that hold anything",
         with_session(with_r, s),
-    );
+    )
 }

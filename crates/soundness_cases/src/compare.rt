@@ -3,66 +3,56 @@ use super::same_rows::{same_entry, same_relay, same_session, same_token, same_vo
 use rules::{Desk, Entry, Relay, Session, Tables, Token, Volume};
 
 fn same_volumes(a: [Volume; 8], b: [Volume; 8]) -> bool {
-    let mut i: usize = 0;
-    while i < 8 {
+    for i in 0..8 {
         let x = a[i];
         let y = b[i];
         if !same_volume(x, y) {
             return false;
         }
-        i += 1;
     }
     true
 }
 
 fn same_entries(a: [Entry; 64], b: [Entry; 64]) -> bool {
-    let mut i: usize = 0;
-    while i < 64 {
+    for i in 0..64 {
         let x = a[i];
         let y = b[i];
         if !same_entry(x, y) {
             return false;
         }
-        i += 1;
     }
     true
 }
 
 fn same_tokens(a: [Token; 32], b: [Token; 32]) -> bool {
-    let mut i: usize = 0;
-    while i < 32 {
+    for i in 0..32 {
         let x = a[i];
         let y = b[i];
         if !same_token(x, y) {
             return false;
         }
-        i += 1;
     }
     true
 }
 
 fn same_relays(a: [Relay; 32], b: [Relay; 32]) -> bool {
-    let mut i: usize = 0;
-    while i < 32 {
+    for i in 0..32 {
         let x = a[i];
         let y = b[i];
         if !same_relay(x, y) {
             return false;
         }
-        i += 1;
     }
     true
 }
 
 fn same_sessions(a: [Session; 4], b: [Session; 4]) -> bool {
-    let mut i: usize = 0;
-    while i < 4 {
+    for i in 0..4 {
         let x = a[i];
         let y = b[i];
         if !same_session(x, y) {
             return false;
         }
-        i += 1;
     }
     true
 }

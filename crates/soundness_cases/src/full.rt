@@ -45,15 +45,13 @@ fn volumes() -> [Volume; 8] {
     let a = name(b'a');
     let first = volume(1, a, Cap::Unlimited, Status::Active);
     let mut rows = [first; 8];
-    let mut i: usize = 0;
     let mut n: u32 = 1;
     let mut byte: u8 = b'a';
-    while i < 8 {
+    for i in 0..8 {
         let text = name(byte);
         rows[i] = volume(n, text, Cap::Unlimited, Status::Active);
         n += 1;
         byte += 1;
-        i += 1;
     }
     rows
 }
@@ -62,12 +60,10 @@ fn volumes() -> [Volume; 8] {
 pub(crate) fn placement() -> Placement {
     let none = RelayNo(0);
     let mut relays = [none; 24];
-    let mut i: usize = 0;
     let mut n: u32 = 1;
-    while i < 24 {
+    for i in 0..24 {
         relays[i] = RelayNo(n);
         n += 1;
-        i += 1;
     }
     Placement { relays, len: 24 }
 }
@@ -89,15 +85,13 @@ fn entries() -> [Entry; 64] {
     let text = path(b'a', b'a');
     let first = entry(1, text);
     let mut rows = [first; 64];
-    let mut i: usize = 0;
     let mut byte: u8 = b'0';
-    while i < 64 {
+    for i in 0..64 {
         let mut e = first;
         let text = path(b'a', byte);
         e.path = text;
         rows[i] = e;
         byte += 1;
-        i += 1;
     }
     rows
 }
@@ -124,16 +118,14 @@ pub(crate) fn token(n: u32, parent: u32, cap: Cap) -> Token {
 fn tokens() -> [Token; 32] {
     let first = token(1, 0, Cap::Unlimited);
     let mut rows = [first; 32];
-    let mut i: usize = 0;
     let mut n: u32 = 1;
-    while i < 32 {
+    for i in 0..32 {
         if i % 8 == 0 {
             rows[i] = token(n, 0, Cap::Unlimited);
         } else {
             rows[i] = token(n, n - 1, Cap::Unlimited);
         }
         n += 1;
-        i += 1;
     }
     rows
 }
@@ -152,16 +144,14 @@ pub(crate) fn relay(n: u32, shards: u32) -> Relay {
 fn relays() -> [Relay; 32] {
     let first = relay(1, 64);
     let mut rows = [first; 32];
-    let mut i: usize = 0;
     let mut n: u32 = 1;
-    while i < 32 {
+    for i in 0..32 {
         if i < 24 {
             rows[i] = relay(n, 64);
         } else {
             rows[i] = relay(n, 0);
         }
         n += 1;
-        i += 1;
     }
     rows
 }
@@ -179,13 +169,11 @@ pub(crate) fn session() -> Session {
     let text = path(b's', b'a');
     let first = put(text);
     let mut puts = [first; 8];
-    let mut i: usize = 0;
     let mut byte: u8 = b'a';
-    while i < 8 {
+    for i in 0..8 {
         let text = path(b's', byte);
         puts[i] = put(text);
         byte += 1;
-        i += 1;
     }
     Session {
         token: TokenNo(1),

@@ -8,18 +8,24 @@ mod compare;
 mod full;
 mod same_rows;
 
-fn main() {
+use std::io;
+use std::io::{BufWriter, Write};
+
+fn main(rt: HostRuntime) -> io::Result<()> {
+    let mut writer = BufWriter::new(rt.alloc(), io::writer(&rt))?;
+    let out = &mut writer;
     let d = full::desk();
-    calls::show(b"the full desk", d);
-    cases::counts(d);
-    cases::volumes(d);
-    cases::statuses(d);
-    cases::names(d);
-    cases::entries(d);
-    cases::placements(d);
-    cases::tokens(d);
-    cases::chains(d);
-    cases::relays(d);
-    cases::sessions(d);
-    cases::free_rows(1);
+    calls::show(out, b"the full desk", d)?;
+    cases::counts(out, d)?;
+    cases::volumes(out, d)?;
+    cases::statuses(out, d)?;
+    cases::names(out, d)?;
+    cases::entries(out, d)?;
+    cases::placements(out, d)?;
+    cases::tokens(out, d)?;
+    cases::chains(out, d)?;
+    cases::relays(out, d)?;
+    cases::sessions(out, d)?;
+    cases::free_rows(out, 1)?;
+    out.flush()
 }

@@ -112,14 +112,12 @@ pub(crate) fn same_volume(a: Volume, b: Volume) -> bool {
 }
 
 fn same_places(a: [RelayNo; 24], b: [RelayNo; 24]) -> bool {
-    let mut i: usize = 0;
-    while i < 24 {
+    for i in 0..24 {
         let x = a[i];
         let y = b[i];
         if x.0 != y.0 {
             return false;
         }
-        i += 1;
     }
     true
 }
@@ -226,14 +224,12 @@ fn same_put(a: Put, b: Put) -> bool {
 }
 
 fn same_puts(a: [Put; 8], b: [Put; 8]) -> bool {
-    let mut i: usize = 0;
-    while i < 8 {
+    for i in 0..8 {
         let x = a[i];
         let y = b[i];
         if !same_put(x, y) {
             return false;
         }
-        i += 1;
     }
     true
 }

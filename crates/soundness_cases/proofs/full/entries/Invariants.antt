@@ -1,0 +1,6 @@
+-- The byte follows the place, so it does not wrap.
+use Rattle.std.proofs.Common.{◌≡◌, ◌+◌}
+use Rattle.soundness_cases.proofs.full.entries.Given as goal
+
+abbrev pub invariant-loop-i : goal.invariant-loop-i
+invariant-loop-i l = l.byte ≡ l.i + 48
