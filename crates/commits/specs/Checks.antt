@@ -1,5 +1,5 @@
 -- The checks of a running session's commit over the parts of the tables that they read, as the number of the refusal, or 0 where all pass; and what is
--- known where they pass. Number 19, for an idle slot, stands before them in `commitWithin`. Assumes nothing.
+-- known where they pass. Number 19, for an idle slot, stands before them in `commit_within`. Assumes nothing.
 use Rattle.std.specs.Prelude.{◌≡◌, true, cond, not, List, [], ◌∷◌, ℕ, ◌+◌, ◌≤◌, eqb, ltb, get_or}
 use Rattle.lists.specs.Lists.{Hit, miss, hit, find, all_of, any_of}
 use Rattle.rules.specs.declared.Placement.{Placement}

@@ -1,4 +1,4 @@
--- Laws of advanceWithin: on sound tables every volume can be settled in the machine's numbers, so that an advance is the rule's. Assumes nothing.
+-- Laws of advance_within: on sound tables every volume can be settled in the machine's numbers, so that an advance is the rule's. Assumes nothing.
 use Rattle.std.specs.Prelude.{◌≡◌, false, not, ℕ, ◌≤◌, leb, length, get_or}
 use Rattle.std.proofs.Math.Bool.{true}
 use Rattle.std.proofs.Math.Logic.{⊎_elim}

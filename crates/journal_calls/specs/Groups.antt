@@ -86,7 +86,7 @@ slot_work slot.Open r l = opens (record { 0 = r.no })
 slot_work slot.Stage r l = stages (text_at r l) r.amount (record { 0 = hash_at r l })
 slot_work slot.Abandon r l = abandons
 
--- the call of a record of the group, whatever version it was read in (`call-alike` in the journal's laws); at the end and at a fault it stands for nothing,
+-- the call of a record of the group, whatever version it was read in (`call_alike` in the journal's laws); at the end and at a fault it stands for nothing,
 -- and is not made
 abbrev pub call_in : Group → Record → List ℕ → Call
 call_in group.End r l = call_at v01 r l

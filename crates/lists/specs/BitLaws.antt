@@ -1,4 +1,4 @@
--- Laws of bitSet: a set of rows built up from the first row by `set |= 1 << i`, its count of ones, and reading a bit. Assumes nothing.
+-- Laws of bit_set: a set of rows built up from the first row by `set |= 1 << i`, its count of ones, and reading a bit. Assumes nothing.
 use Rattle.std.specs.Prelude.{◌≡◌, Bool, true, false, List, [], ◌∷◌, ◌++◌, ℕ, zero, suc, ◌+◌, ◌*◌, ◌/◌, ◌%◌, ◌^◌, ◌<◌, ◌≤◌, eqb, length, get_or, take}
 use Rattle.std.proofs.Math.Path.{refl}
 use Rattle.std.proofs.Common.{ap, ap₂, sym, ◌∙◌, pow-suc, mod-eq_of_lt, not-suc-le-zero, le_of_suc-le-suc, le_of_lt, zero-mul, add-one, arith, eq-eqb, ne_eqb, take_all, take-suc, length-take-le}

@@ -1,4 +1,4 @@
--- Laws of first_at and firstRow: one step of a search and its end, and what a search finds. Assumes nothing.
+-- Laws of first_at and first_row: one step of a search and its end, and what a search finds. Assumes nothing.
 use Rattle.std.specs.Prelude.{◌≡◌, Bool, true, false, ◌||◌, cond, ◌⊎◌, length, drop, get_or}
 use Rattle.std.proofs.Math.Path.{refl}
 use Rattle.std.proofs.Common.{ap, sym, ◌∙◌, inl, inr, add-one, arith, drop_of_length-le}

@@ -1,4 +1,4 @@
--- Laws of all_of, any_of and noClash: one step of a loop and its end, and what they say of each row. Assumes nothing.
+-- Laws of all_of, any_of and no_clash: one step of a loop and its end, and what they say of each row. Assumes nothing.
 use Rattle.std.specs.Prelude.{◌≡◌, Bool, true, false, ◌&&◌, ◌||◌, not, eqb, ltb, length, drop, get_or, replicate}
 use Rattle.std.proofs.Math.Path.{refl}
 use Rattle.std.proofs.Common.{sym, ◌∙◌, ⊎_elim, le_of_suc-le-suc, not-suc-le-zero, arith, drop_of_length-le}

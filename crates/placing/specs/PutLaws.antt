@@ -1,4 +1,4 @@
--- Laws of placedPut: it is one step of place_all, and on relays that are sound as far as placing needs it the numbers have room. Assumes nothing.
+-- Laws of placed_put: it is one step of place_all, and on relays that are sound as far as placing needs it the numbers have room. Assumes nothing.
 use Rattle.std.specs.Prelude.{◌≡◌, ◌&&◌, ◌||◌, not, ℕ, ◌+◌, ◌-◌, ◌<◌, ◌≤◌, length}
 use Rattle.std.proofs.Math.Path.{refl}
 use Rattle.std.proofs.Common.{sym, arith}

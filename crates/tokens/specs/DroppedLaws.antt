@@ -1,4 +1,4 @@
--- Laws of clearedIn: each row by its bit, no rows, and the rows that pass a test. Assumes nothing.
+-- Laws of cleared_in: each row by its bit, no rows, and the rows that pass a test. Assumes nothing.
 use Rattle.std.specs.Prelude.{◌≡◌, Bool, true, false, cond, eqb, length, get_or}
 use Rattle.std.proofs.Math.Path.{refl, sym, ap}
 use Rattle.std.proofs.Common.{◌∙◌, le_of_suc-le-suc, not-suc-le-zero, eq-eqb, ne_eqb}

@@ -1,4 +1,4 @@
--- Laws of sameEntry: entries of one volume and path. Assumes nothing.
+-- Laws of same_entry: entries of one volume and path. Assumes nothing.
 use Rattle.std.specs.Prelude.{◌≡◌, true, false}
 use Rattle.std.proofs.Common.{ap, sym, ◌∙◌}
 use Rattle.lists.specs.Bytes.{same_bytes}

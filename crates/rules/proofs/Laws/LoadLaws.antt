@@ -1,4 +1,4 @@
--- Laws of loaded and placeAll: each put that is placed adds its bytes and one shard to the relays that it took and to no others, and no
+-- Laws of loaded and place_all: each put that is placed adds its bytes and one shard to the relays that it took and to no others, and no
 -- relay takes more than its capacity. Assumes nothing.
 use Rattle.std.specs.Prelude.{◌≡◌, refl, Bool, true, false, ◌&&◌, cond, ℕ, ◌+◌, ◌-◌, leb}
 use Rattle.std.proofs.Math.Path.{ap, sym}

@@ -1,4 +1,4 @@
--- Laws of ranked, taken and placementOf: a put takes as many relays as it wants, each a row of the table that may take a shard, and no two of
+-- Laws of ranked, taken and placement_of: a put takes as many relays as it wants, each a row of the table that may take a shard, and no two of
 -- one number. Assumes nothing.
 use Rattle.std.specs.Prelude.{◌≡◌, true, false, ◌&&◌, ◌||◌, cond, ℕ, suc, ◌+◌, ◌-◌, ◌<◌, ◌≤◌, leb, take, replicate}
 use Rattle.std.proofs.Math.Path.{refl, ap, sym}

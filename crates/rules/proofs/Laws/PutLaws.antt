@@ -1,4 +1,4 @@
--- Laws of storeAll: the puts of a commit are stored as their entries. Assumes nothing.
+-- Laws of store_all: the puts of a commit are stored as their entries. Assumes nothing.
 use Rattle.std.specs.Prelude.{◌≡◌, ◌&&◌, ℕ, ◌+◌, ◌≤◌, length}
 use Rattle.std.proofs.Math.Path.{refl, ap, sym, fun_ext}
 use Rattle.std.proofs.Common.{◌∙◌, eq-eqb}
