@@ -1,5 +1,5 @@
 -- Document 01, "Rent" and "Relays": the clock goes on, epochs end, relays leave and volumes are collected. Assumes nothing.
-use Rattle.std.specs.Prelude.{Bool, true, false, ◌&&◌, ◌||◌, cond, List, [], map, ℕ, ◌+◌, ◌-◌, min, eqb, leb, ltb}
+use Rattle.std.specs.Prelude.{Bool, true, false, ◌&&◌, ◌||◌, cond, List, map, ℕ, ◌+◌, ◌-◌, min, leb, ltb}
 use Rattle.lists.specs.Lists.{any_of, keep}
 use Rattle.rules.specs.declared.VolumeNo.{VolumeNo}
 use Rattle.rules.specs.declared.Status.{Status}

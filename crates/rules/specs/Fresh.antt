@@ -1,5 +1,5 @@
 -- Document 01: "A fresh desk is empty, clock 0"; "a freed row or slot is as on a fresh desk". Number 0 marks a free row. Assumes nothing.
-use Rattle.std.specs.Prelude.{ℕ, [], replicate}
+use Rattle.std.specs.Prelude.{ℕ, replicate}
 use Rattle.amount.specs.declared.Cap.TheVariants.{Bytes}
 use Rattle.text.specs.declared.Text.{Text}
 use Rattle.text.specs.declared.name.Name.{Name}

@@ -1,5 +1,5 @@
 -- Document 01, "The calls": register and heartbeat. Each is its checks in the order of its row, then its effect. Assumes nothing.
-use Rattle.std.specs.Prelude.{cond, [], ℕ, ◌+◌, eqb, leb, ltb, set}
+use Rattle.std.specs.Prelude.{cond, ℕ, ◌+◌, eqb, leb, ltb, set}
 use Rattle.lists.specs.Lists.{Hit, miss, hit, find}
 use Rattle.rules.specs.declared.RelayNo.{RelayNo}
 use Rattle.rules.specs.declared.Relay.{Relay}

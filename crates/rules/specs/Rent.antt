@@ -1,5 +1,5 @@
 -- Document 01, "Rent": effective size, rent and epochs. Assumes nothing.
-use Rattle.std.specs.Prelude.{List, [], map, ℕ, ◌+◌, ◌-◌, ◌*◌, ◌/◌}
+use Rattle.std.specs.Prelude.{List, map, ℕ, ◌+◌, ◌-◌, ◌*◌, ◌/◌}
 use Rattle.lists.specs.Lists.{keep, total}
 use Rattle.rules.specs.declared.VolumeNo.{VolumeNo}
 use Rattle.rules.specs.declared.Volume.{Volume}

@@ -1,6 +1,6 @@
 -- Document 01, "Answered 1 before all else": the test of the desk, as a computed test. Each part stands under the words that it renders.
 -- A free row is free whatever else it holds; bytes after a text's length and places after a placement's length are not read. Assumes nothing.
-use Rattle.std.specs.Prelude.{Bool, false, ◌&&◌, ◌||◌, not, [], ℕ, ◌+◌, eqb, leb}
+use Rattle.std.specs.Prelude.{Bool, false, ◌&&◌, ◌||◌, not, ℕ, ◌+◌, eqb, leb}
 use Rattle.lists.specs.Lists.{Hit, miss, hit, find, all_of, any_of, sum_of, no_clash}
 use Rattle.lists.specs.Bytes.{same_bytes}
 use Rattle.text.specs.Text.{within, is_path, is_prefix, holds, text_bytes, name_bytes, holds_name}

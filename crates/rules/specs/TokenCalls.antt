@@ -1,5 +1,5 @@
 -- Document 01, "The calls": grant, attenuate, revoke and look. Each is its checks in the order of its row, then its effect. Assumes nothing.
-use Rattle.std.specs.Prelude.{cond, not, List, [], ℕ, ◌+◌, leb, set}
+use Rattle.std.specs.Prelude.{cond, not, List, ℕ, ◌+◌, leb, set}
 use Rattle.lists.specs.Lists.{Hit, miss, hit, find}
 use Rattle.text.specs.Text.{is_path, covers, text_bytes}
 use Rattle.rules.specs.declared.VolumeNo.{VolumeNo}

@@ -1,6 +1,6 @@
 -- Document 01, "The calls": create, deposit, delete and undelete, and remove. Each is its checks in the order of its row, then its effect.
 -- Assumes nothing.
-use Rattle.std.specs.Prelude.{Bool, true, false, ◌&&◌, ◌||◌, cond, not, List, [], map, ℕ, ◌+◌, eqb, leb, ltb, set}
+use Rattle.std.specs.Prelude.{Bool, true, false, ◌&&◌, ◌||◌, cond, not, List, map, ℕ, ◌+◌, leb, ltb, set}
 use Rattle.amount.specs.declared.Cap.{Cap}
 use Rattle.lists.specs.Lists.{Hit, miss, hit, find, any_of, keep}
 use Rattle.lists.specs.Bytes.{same_bytes}

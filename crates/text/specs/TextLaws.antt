@@ -1,5 +1,5 @@
 -- Laws of texts: a text filled byte by byte, and what it holds. Assumes nothing.
-use Rattle.std.specs.Prelude.{◌≡◌, refl, Bool, true, ◌&&◌, List, [], ◌∷◌, ◌++◌, ℕ, zero, suc, min, ◌+◌, ◌-◌, ◌≤◌, leb, eqb, length, take, drop, get_or, replicate}
+use Rattle.std.specs.Prelude.{◌≡◌, refl, Bool, true, ◌&&◌, List, [], ◌∷◌, ℕ, zero, suc, min, ◌-◌, ◌≤◌, leb, eqb, length, take, drop, get_or, replicate}
 use Rattle.std.proofs.Common.{ap, sym, ◌∙◌, zero-add, arith, le-leb, leb-true, rules, length-take, take_at, length-take-le}
 use Rattle.std.proofs.Math.Nat.{min_comm, min-zero, min-le_left, min-le_right, suc-min-suc}
 use Rattle.std.proofs.Math.Seq.{take-nil}

@@ -1,6 +1,6 @@
 -- The loop that makes the rows of a table which pass a test fresh: the first i rows are cleared, and the others are as they came. It is a loop
 -- that fills the table with its cleared rows (FillLoop), and stores nothing where a row stays. `search clears` answers each need. Assumes nothing.
-use Rattle.std.specs.Prelude.{◌≡◌, Bool, true, false, cond, List, ℕ, ◌+◌, ◌<◌, ◌≤◌, length, get_or, set}
+use Rattle.std.specs.Prelude.{◌≡◌, Bool, true, false, List, ℕ, ◌+◌, ◌<◌, ◌≤◌, length, get_or, set}
 use Rattle.std.proofs.Common.{sym, ◌∙◌, arith, rules}
 use Rattle.lists.specs.ByteLoopLaws.{FillLoop, fill_start, fill_step_first, fill_same, fill_whole, fill_size}
 use Rattle.lists.specs.RowLaws.{rows_length}

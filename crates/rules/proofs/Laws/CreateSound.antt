@@ -20,7 +20,7 @@ use Rattle.rules.specs.declared.Token.{Token}
 use Rattle.rules.specs.declared.Tables.{Tables}
 use Rattle.rules.specs.Limits.{last_number}
 use Rattle.rules.specs.Fresh.{fresh_volume, fresh_entry, fresh_token}
-use Rattle.rules.specs.Tables.{numbered, used_volume, used_entry, used_token, free_volume, is_volume, owned_by, with_last_volume}
+use Rattle.rules.specs.Tables.{used_volume, used_entry, used_token, free_volume, is_volume, owned_by, with_last_volume}
 use Rattle.rules.specs.Scope.{cap_fits}
 use Rattle.rules.specs.Sound.{shards_fit, sound_volume, sound_entry, sound_token, sound_in, volume_there, same_name}
 use Rattle.rules.specs.VolumeCalls.{has_name, new_volume, created}

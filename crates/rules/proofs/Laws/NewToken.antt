@@ -15,7 +15,7 @@ use Rattle.rules.specs.declared.Tables.{Tables}
 use Rattle.rules.specs.Limits.{last_number, deepest}
 use Rattle.rules.specs.Fresh.{fresh_token}
 use Rattle.rules.specs.Tables.{used_token, free_token, is_token, is_volume, with_tokens, with_last_token}
-use Rattle.rules.specs.Scope.{ScopeArg, scope_fits, to_scope, on_hit, chain, family, depth}
+use Rattle.rules.specs.Scope.{ScopeArg, scope_fits, to_scope, on_hit, chain, depth}
 use Rattle.rules.specs.Sound.{sound_token, volume_there, parent_there}
 use Rattle.rules.specs.TokenCalls.{next_token, granted}
 use Rattle.rules.proofs.Laws.MappedLaws.{map_hit, found_any}

@@ -10,7 +10,6 @@ use Rattle.lists.specs.BoolLaws.{and_left, and_right, and_both, pass_or_fail}
 use Rattle.lists.specs.TestLaws.{all_weaker}
 use Rattle.rules.specs.declared.Placement.{Placement}
 use Rattle.rules.specs.declared.Status.{Status}
-use Rattle.rules.specs.declared.Status.TheVariants.{Active, Grace, Deleted}
 use Rattle.rules.specs.declared.Volume.{Volume}
 use Rattle.rules.specs.declared.Entry.{Entry}
 use Rattle.rules.specs.declared.Token.{Token}

@@ -22,7 +22,7 @@ use Rattle.rules.specs.Tables.{busy, staged, is_token}
 use Rattle.rules.specs.Scope.{family}
 use Rattle.rules.specs.Outcome.{is_accepted, slot_refused, slot_accepted}
 use Rattle.rules.specs.Commit.{staged_bytes, charged, committed}
-use Rattle.rules.specs.Calls.{Work, opens, stages, commits, abandons, work_rule}
+use Rattle.rules.specs.Calls.{Work, work_rule}
 use Rattle.rules.proofs.Laws.WorkCases.{WorkEffect, opening, restaging, staging, committing, abandoning, WorkDoes, refuses, takes, work_cases}
 use Rattle.rules.proofs.Laws.BranchLaws.{cond_case}
 use Rattle.rules.specs.Serial.{kind_of}

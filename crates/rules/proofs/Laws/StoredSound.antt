@@ -18,7 +18,7 @@ use Rattle.rules.specs.declared.Relay.{Relay}
 use Rattle.rules.specs.declared.Tables.{Tables}
 use Rattle.rules.specs.Limits.{size_limit}
 use Rattle.rules.specs.Fresh.{fresh_relay}
-use Rattle.rules.specs.Tables.{numbered, used_relay, free_entry, is_volume, with_entries, with_relays}
+use Rattle.rules.specs.Tables.{used_relay, free_entry, is_volume, with_entries, with_relays}
 use Rattle.rules.specs.Relays.{bytes_on, shards_on, lightened}
 use Rattle.rules.specs.Sound.{sound_placement, sound_in, sound_entry, sound_token, sound_relay, sound_put, volume_there, parent_there, same_relay_row}
 use Rattle.rules.proofs.Laws.RowFacts.{or_last, facts_entry, relay_facts, facts_relay, free_relay_lem}

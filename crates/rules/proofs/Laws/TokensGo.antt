@@ -14,7 +14,7 @@ use Rattle.rules.specs.declared.Token.{Token}
 use Rattle.rules.specs.declared.Tables.{Tables}
 use Rattle.rules.specs.Limits.{deepest}
 use Rattle.rules.specs.Fresh.{fresh_token}
-use Rattle.rules.specs.Tables.{numbered, used_token, is_token, with_tokens, cleared}
+use Rattle.rules.specs.Tables.{used_token, is_token, with_tokens, cleared}
 use Rattle.rules.specs.Scope.{on_hit, chain}
 use Rattle.rules.specs.Sound.{sound_entry, sound_token, sound_relay, parent_there, volume_there, same_token}
 use Rattle.rules.proofs.Laws.RowFacts.{token_facts, facts_token, free_token_lem}

@@ -13,7 +13,7 @@ use Rattle.rules.specs.declared.Volume.{Volume}
 use Rattle.rules.specs.declared.Tables.{Tables}
 use Rattle.rules.specs.Limits.{balance_limit, deposits_limit}
 use Rattle.rules.specs.Fresh.{fresh_volume, fresh_token}
-use Rattle.rules.specs.Tables.{used_token, numbered, is_volume, volume_of, with_volumes, with_deposits, with_balance, with_status}
+use Rattle.rules.specs.Tables.{used_token, is_volume, volume_of, with_volumes, with_deposits, with_balance, with_status}
 use Rattle.rules.specs.Sound.{sound_grace, sound_status, sound_volume}
 use Rattle.rules.specs.VolumeCalls.{too_much, is_token_of, deposited, deleted, undeleted}
 use Rattle.rules.proofs.Laws.RestParts.{rest_of}

@@ -6,7 +6,7 @@ use Rattle.lists.specs.BoolLaws.{pass_or_fail}
 use Rattle.lists.specs.TestLaws.{all_weaker}
 use Rattle.rules.specs.declared.Volume.{Volume}
 use Rattle.rules.specs.declared.Tables.{Tables}
-use Rattle.rules.specs.Tables.{numbered, used_volume, with_volumes}
+use Rattle.rules.specs.Tables.{used_volume, with_volumes}
 use Rattle.rules.specs.Sound.{sound_volume}
 use Rattle.rules.proofs.Laws.RestParts.{Rest, with_volumes_lem}
 use Rattle.rules.proofs.Laws.RowFacts.{volume_facts}
