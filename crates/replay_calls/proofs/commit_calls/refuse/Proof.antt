@@ -8,4 +8,4 @@ refuse_spec =
     tie.close
     (tie.spec
     (λ c κs. search rules)
-    (λ c. rw c.refusal.ensures))
+    (λ c. rw c.refusal-answer.ensures))

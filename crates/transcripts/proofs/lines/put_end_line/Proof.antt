@@ -9,7 +9,6 @@ unfolding last_line
 put_end_line_spec =
     tie.close
     (tie.spec
-    (λ c. search pieces)
     (λ c κs. search pieces)
     (λ c κs. search pieces)
     (λ c. search pieces)
