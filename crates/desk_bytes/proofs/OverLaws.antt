@@ -1,11 +1,11 @@
 -- Bytes written over those of a buffer, part after part. Assumes nothing.
 use mathlib.Core.Path.{◌≡◌, refl, sym, ◌∙◌, ap}
-use mathlib.Core.List.{List, [], ◌∷◌, ◌++◌, append_assoc, append-nil}
+use mathlib.Core.List.{List, [], ◌++◌}
 use Prim.Native.Nat.{ℕ, suc, ◌+◌, ◌-◌, ◌/◌, ◌%◌, ◌<◌, ◌≤◌}
 use native.Mathlib.Omega.{arith}
 use borrow.Author.Rules.{rules}
-use lib.ListN.{length, take, drop, set, length-append, length-set, length-drop, take-append-drop}
-use lib.Seq.{append_snoc, take-set-le, set_split, drop_at, take_at, drop-drop, length-take-le, take-length}
+use lib.ListN.{length, take, drop, set, length-append, length-set}
+use lib.Seq.{take-length}
 use Rattle.lists.specs.ByteLoopLaws.{FillLoop, fill_end}
 use Rattle.lists.specs.OverLaws.{over_none, over_last, length_over, over_over}
 use Rattle.amount.specs.declared.Cap.{Cap}

@@ -1,7 +1,7 @@
 -- How many bytes the layout has: of every row whose arrays have as many elements as their types say, and of the whole desk. Assumes nothing.
 use Rattle.std.specs.Prelude.{◌≡◌, refl, Bool, true, ◌&&◌, ℕ, ◌+◌, ◌*◌, eqb, length}
-use Rattle.std.proofs.Common.{sym, ◌∙◌, ap, suc-mul, arith, eqb-true, length-append}
-use mathlib.Core.List.{List, [], ◌∷◌, ◌++◌, flat_map}
+use Rattle.std.proofs.Common.{◌∙◌, suc-mul, arith, eqb-true, length-append}
+use mathlib.Core.List.{List, [], ◌∷◌, flat_map}
 use Rattle.amount.specs.declared.Cap.{Cap}
 use Rattle.amount.specs.declared.Cap.TheVariants.{Unlimited, Bytes}
 use Rattle.lists.specs.Lists.{all_of}
@@ -12,17 +12,14 @@ use Rattle.text.specs.Text.{path_limit, name_limit}
 use Rattle.rules.specs.declared.Placement.{Placement}
 use Rattle.rules.specs.declared.Volume.{Volume}
 use Rattle.rules.specs.declared.Entry.{Entry}
-use Rattle.rules.specs.declared.Scope.{Scope}
 use Rattle.rules.specs.declared.Token.{Token}
 use Rattle.rules.specs.declared.Relay.{Relay}
 use Rattle.rules.specs.declared.Put.{Put}
 use Rattle.rules.specs.declared.Session.{Session}
-use Rattle.rules.specs.declared.Tables.{Tables}
 use Rattle.rules.specs.declared.Desk.{Desk}
 use Rattle.rules.specs.Limits.{volume_rows, entry_rows, token_rows, relay_rows, slot_rows, put_rows, shard_places}
-use Rattle.journal.specs.Numbers.{bytes_of}
 use Rattle.journal.proofs.NumberLaws.{length_bytes_of}
-use Rattle.desk_bytes.specs.Layout.{text_bytes_all, text_length, name_bytes_all, name_length, hash_length, relay_no_bytes, cap_bytes, cap_length, placement_bytes, placement_length, volume_bytes, volume_length, entry_bytes, entry_length, scope_bytes, scope_length, token_bytes, token_length, relay_bytes, relay_length, put_bytes, put_length, session_bytes, session_length, tables_bytes, tables_length, desk_bytes, desk_length}
+use Rattle.desk_bytes.specs.Layout.{text_bytes_all, text_length, name_bytes_all, name_length, hash_length, relay_no_bytes, cap_bytes, cap_length, placement_bytes, placement_length, volume_bytes, volume_length, entry_bytes, entry_length, scope_bytes, token_bytes, token_length, relay_bytes, relay_length, put_bytes, put_length, session_bytes, session_length, tables_bytes, desk_bytes, desk_length}
 
 -- ---- the totals
 

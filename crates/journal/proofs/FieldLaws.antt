@@ -1,6 +1,6 @@
 -- The laws of fields: what is written reads back, and what was read is written as the same bytes. One pair of laws for all forms, and the same
 -- pair for lists of fields. Assumes nothing.
-use Rattle.std.specs.Prelude.{◌≡◌, refl, Bool, true, false, cond, List, [], ◌∷◌, ◌++◌, ℕ, zero, suc, ◌+◌, ◌^◌, ◌<◌, ◌≤◌, eqb, leb, ltb, length, take, drop, get_or}
+use Rattle.std.specs.Prelude.{◌≡◌, refl, Bool, true, false, cond, List, [], ◌∷◌, ◌++◌, ℕ, zero, suc, ◌^◌, ◌<◌, ◌≤◌, eqb, leb, ltb, length, take, drop, get_or}
 use Rattle.std.proofs.Common.{sym, ◌∙◌, ap, append_assoc, arith, lit<, length-append, take-append-drop, take_at, drop_at, length-take-le, ltb-true, leb-true, eqb-true, lt-ltb, le-leb, eq-eqb}
 use Rattle.std.proofs.Math.Pow.{are_bytes}
 use Rattle.amount.specs.declared.Cap.{Cap}

@@ -8,7 +8,7 @@ use mir.Val.{Fits}
 use mir.Syntax.{w8}
 use lib.ListN.{length, take, drop, get_or, replicate, length-drop, drop_of_length-le}
 use lib.Seq.{take_all, take-append-le, take-append-add, take-length, take-nil, length-take-le, paste}
-use borrow.Author.Tests.{lt-ltb, le-ltb, eq-eqb, ne_eqb}
+use borrow.Author.Tests.{lt-ltb, le-ltb, ne_eqb}
 use Rattle.journal.specs.declared.Start.{Start}
 use Rattle.journal.specs.declared.Start.TheVariants.{Records, Fault}
 use Rattle.journal.specs.declared.Next.TheVariants.{End, Whole, Stop}

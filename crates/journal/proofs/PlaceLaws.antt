@@ -1,9 +1,8 @@
 -- The laws of places: the call that the reader's answer stands for is the call of the record's bytes. Assumes nothing.
-use Rattle.std.specs.Prelude.{◌≡◌, refl, Bool, true, false, ◌&&◌, List, [], ◌∷◌, ◌++◌, ℕ, ◌+◌, eqb, length, take, drop, replicate}
+use Rattle.std.specs.Prelude.{◌≡◌, refl, true, List, [], ◌∷◌, ◌++◌, ℕ, ◌+◌, length, drop, replicate}
 use Rattle.std.proofs.Common.{sym, ◌∙◌, ap, append_assoc, append-nil, take_at, drop_at, drop-drop, eqb-true}
-use Rattle.std.proofs.Math.Option.{Option, none, some}
+use Rattle.std.proofs.Math.Option.{some}
 use Rattle.std.proofs.Math.Pow.{are_bytes}
-use Rattle.rules.specs.Calls.{Call}
 use Rattle.journal.specs.declared.Kind.{Kind}
 use Rattle.journal.specs.declared.Kind.TheVariants.{Advance, Create, Deposit, Delete, Undelete, Grant, Attenuate, Revoke, Open, Stage, Commit, Abandon, Remove, Look, Register, Heartbeat}
 use Rattle.journal.specs.declared.Field.{Field}
@@ -14,7 +13,7 @@ use Rattle.lists.specs.BoolLaws.{and_left, and_right}
 use Rattle.journal.proofs.NumberLaws.{length_bytes_of}
 use Rattle.journal.specs.Fields.{ValueOf, ValuesOf, encode, encode_all, fits, fits_all}
 use Rattle.journal.specs.Records.{Version, v01, text_width, format_of, forms_of, fields_of, Values, call_of, Parsed, unfit, parsed, parse, call_parsed, read_record, record_bytes}
-use Rattle.journal.proofs.RecordLaws.{Given, parse_given}
+use Rattle.journal.proofs.RecordLaws.{parse_given}
 use Rattle.journal.specs.Places.{blank, place, place_all, reading_of, read_at, bytes_at, padded32, value_at, values_at, call_at, call_read}
 
 -- what stands after the bytes that stand at a place

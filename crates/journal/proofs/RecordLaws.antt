@@ -1,16 +1,16 @@
 -- The laws of records: a kind and its values and the call that they stand for are the same thing, and so are they and the bytes. The kinds enter only
 -- by their lists of fields and the table of calls. Assumes nothing.
-use Rattle.std.specs.Prelude.{◌≡◌, refl, Bool, true, false, ◌&&◌, cond, List, [], ◌∷◌, ◌++◌, ℕ, eqb, ltb}
+use Rattle.std.specs.Prelude.{◌≡◌, refl, Bool, true, false, cond, List, [], ◌∷◌, ℕ, eqb, ltb}
 use Rattle.std.proofs.Common.{sym, ◌∙◌, ap, subst, append-nil, arith, eqb-true}
 use Rattle.std.proofs.Math.Option.{Option, none, some}
 use Rattle.std.proofs.Math.Pow.{are_bytes}
-use Rattle.rules.specs.Calls.{Ask, advance, create, deposit, delete, undelete, grant, attenuate, revoke, remove, look, register, heartbeat, Work, opens, stages, commits, abandons, Call, ask, on_slot}
+use Rattle.rules.specs.Calls.{advance, create, deposit, delete, undelete, grant, attenuate, revoke, remove, look, register, heartbeat, opens, stages, commits, abandons, Call, ask, on_slot}
 use Rattle.journal.specs.declared.Kind.{Kind}
 use Rattle.journal.specs.declared.Kind.TheVariants.{Advance, Create, Deposit, Delete, Undelete, Grant, Attenuate, Revoke, Open, Stage, Commit, Abandon, Remove, Look, Register, Heartbeat}
 use Rattle.lists.specs.BoolLaws.{and_right}
 use Rattle.journal.specs.Fields.{Decoded, nothing, found, decode_all, encode_all, fits_all}
 use Rattle.journal.proofs.FieldLaws.{decode_encode_all, decode_taken_all, TakenAll}
-use Rattle.journal.specs.Records.{Version, fields_of, kind_number, kinds, all_kinds, kind_among, kind_numbered, forms_of, Values, call_of, kind_of, values_of, Parsed, unfit, parsed, whole, parse_kind, parse, call_parsed, read_record, record_bytes, write_record, writable}
+use Rattle.journal.specs.Records.{Version, fields_of, kind_number, kinds, all_kinds, kind_among, kind_numbered, forms_of, Values, call_of, kind_of, values_of, Parsed, unfit, parsed, whole, parse_kind, parse, call_parsed, record_bytes, write_record}
 use Rattle.journal.specs.VersionLaws.{kinds_all}
 
 -- ---- calls, and kinds with their values

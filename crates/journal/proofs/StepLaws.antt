@@ -9,7 +9,6 @@ use lib.Pow.{are_bytes}
 use lib.ListN.{length, take, drop, length-append}
 use lib.Seq.{length-take-le}
 use borrow.Author.Tests.{le-leb, lt-leb, leb-true, leb-false, ltb-true}
-use Rattle.amount.specs.declared.Cap.{Cap}
 use Rattle.amount.specs.declared.Cap.TheVariants.{Unlimited, Bytes}
 use Rattle.rules.specs.declared.Mode.{Mode}
 use Rattle.journal.specs.declared.Field.{Field}

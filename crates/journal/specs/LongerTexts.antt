@@ -1,10 +1,10 @@
 -- A call that can be written in a version can be written in one that has longer texts: all other fields are the same. Assumes nothing.
-use Rattle.std.specs.Prelude.{◌≡◌, true, List, ◌∷◌, ℕ, ◌^◌, ◌<◌, ◌≤◌, leb, ltb}
+use Rattle.std.specs.Prelude.{◌≡◌, true, List, ◌∷◌, ℕ, ◌^◌, ◌≤◌, leb, ltb}
 use Rattle.std.proofs.Common.{arith}
 use Rattle.std.proofs.Math.ListN.{length}
 use borrow.Author.Tests.{leb-true, le-leb, lt-ltb}
 use Rattle.lists.specs.BoolLaws.{and_left, and_right, and_both}
-use Rattle.rules.specs.Calls.{Ask, advance, create, deposit, delete, undelete, grant, attenuate, revoke, remove, look, register, heartbeat, Work, opens, stages, commits, abandons, Call, ask, on_slot}
+use Rattle.rules.specs.Calls.{advance, create, deposit, delete, undelete, grant, attenuate, revoke, remove, look, register, heartbeat, opens, stages, commits, abandons, Call, ask, on_slot}
 use Rattle.journal.specs.Fields.{Format, number, text, bytes, ValueOf, ValuesOf, fits, fits_all}
 use Rattle.journal.specs.Records.{Version, text_width, text_most, writable}
 use Rattle.journal.specs.VersionLaws.{text_counted}

@@ -1,10 +1,8 @@
 -- What the record reader answers: the record with its numbers, and where in its bytes its account, text and hash begin. `call_at` says which call such
 -- a record stands for. Assumes nothing.
-use Rattle.std.specs.Prelude.{Bool, true, false, cond, List, [], ◌∷◌, ◌++◌, ℕ, ◌+◌, length, take, drop, replicate}
+use Rattle.std.specs.Prelude.{List, [], ◌∷◌, ◌++◌, ℕ, ◌+◌, length, take, drop, replicate}
 use Rattle.std.proofs.Math.Option.{Option, none, some}
-use Rattle.amount.specs.declared.Cap.{Cap}
 use Rattle.amount.specs.declared.Cap.TheVariants.{Unlimited}
-use Rattle.rules.specs.declared.Mode.{Mode}
 use Rattle.rules.specs.declared.Mode.TheVariants.{Read}
 use Rattle.rules.specs.Calls.{Call}
 use Rattle.journal.specs.declared.Kind.{Kind}
@@ -13,8 +11,8 @@ use Rattle.journal.specs.declared.Field.TheVariants as its
 use Rattle.journal.specs.declared.Record.{Record}
 use Rattle.journal.specs.declared.Reading.{Reading}
 use Rattle.journal.specs.declared.Reading.TheVariants.{Fits, Refused}
-use Rattle.journal.specs.Fields.{Decoded, nothing, found, ValueOf, ValuesOf, encode}
-use Rattle.journal.specs.Records.{Version, text_width, format_of, forms_of, fields_of, Values, call_of, Parsed, unfit, parsed, parse}
+use Rattle.journal.specs.Fields.{ValueOf, ValuesOf, encode}
+use Rattle.journal.specs.Records.{Version, text_width, format_of, forms_of, fields_of, call_of, Parsed, unfit, parsed, parse}
 
 -- 27: "Cut or unfitting record, unknown kind, cap byte or mode"
 abbrev pub RECORD : ℕ

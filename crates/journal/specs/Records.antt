@@ -1,11 +1,6 @@
 -- Document 01, "The calls" and "Journal": the kinds of records with their fields, and the calls that records stand for. Assumes nothing.
-use Rattle.std.specs.Prelude.{Bool, true, false, cond, List, [], ◌∷◌, ◌++◌, map, ℕ, eqb}
+use Rattle.std.specs.Prelude.{Bool, cond, List, [], ◌∷◌, map, ℕ, eqb}
 use Rattle.std.proofs.Math.Option.{Option, none, some}
-use Rattle.rules.specs.declared.VolumeNo.{VolumeNo}
-use Rattle.rules.specs.declared.TokenNo.{TokenNo}
-use Rattle.rules.specs.declared.RelayNo.{RelayNo}
-use Rattle.rules.specs.declared.Account.{Account}
-use Rattle.rules.specs.declared.Hash.{Hash}
 use Rattle.rules.specs.Scope.{ScopeArg}
 use Rattle.rules.specs.Calls.{Ask, advance, create, deposit, delete, undelete, grant, attenuate, revoke, remove, look, register, heartbeat, Work, opens, stages, commits, abandons, Call, ask, on_slot}
 pub use Rattle.journal.specs.declared.Version.{Version}
@@ -14,7 +9,7 @@ use Rattle.journal.specs.declared.Kind.{Kind}
 use Rattle.journal.specs.declared.Kind.TheVariants.{Advance, Create, Deposit, Delete, Undelete, Grant, Attenuate, Revoke, Open, Stage, Commit, Abandon, Remove, Look, Register, Heartbeat}
 use Rattle.journal.specs.declared.Field.{Field}
 use Rattle.journal.specs.declared.Field.TheVariants as its
-use Rattle.journal.specs.Fields.{Format, number, text, bytes, cap, mode, ValueOf, ValuesOf, Decoded, nothing, found, decode_all, encode_all, fits_all}
+use Rattle.journal.specs.Fields.{Format, number, text, bytes, cap, mode, ValuesOf, Decoded, nothing, found, decode_all, encode_all, fits_all}
 
 -- "One version byte 01"; 02, W1: "so the version byte becomes 02; a 01 journal is still read"
 abbrev pub v01 : Version

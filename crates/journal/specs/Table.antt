@@ -15,7 +15,7 @@ use Rattle.journal.specs.declared.Record.{Record}
 use Rattle.journal.specs.declared.Reading.{Reading}
 use Rattle.journal.specs.declared.Reading.TheVariants as answer
 use Rattle.journal.specs.Fields.{Format, number, text, bytes, cap, mode, Decoded, nothing, found, ValueOf, ValuesOf, decode_number, decode_all, encode}
-use Rattle.journal.specs.Records.{Version, v01, format_of, forms_of, fields_of, kind_numbered}
+use Rattle.journal.specs.Records.{Version, v01, format_of, forms_of, kind_numbered}
 use Rattle.journal.specs.Places.{RECORD, place, place_all}
 
 abbrev pub named_by : Option Kind → Named

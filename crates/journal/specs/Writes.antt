@@ -1,12 +1,11 @@
 -- Document 01, "Journal": "The record writer refuses a record the reader can't give (an unknown kind, a mode above 2, a text above 255 bytes) with 1,
 -- then a short buffer with 12." 02, W1: "A version 02 text has at most 1,024 bytes; a longer one is .. 1 when written." Assumes nothing.
-use Rattle.std.specs.Prelude.{Bool, true, false, ◌&&◌, cond, List, [], ◌∷◌, ◌++◌, ℕ, ◌+◌, ◌≤◌, eqb, leb, length}
+use Rattle.std.specs.Prelude.{Bool, true, ◌&&◌, cond, List, [], ◌∷◌, ◌++◌, ℕ, ◌+◌, ◌≤◌, eqb, leb, length}
 use Rattle.std.proofs.Math.Option.{Option, none, some}
 pub use Rattle.lists.specs.Bytes.{over}
 use Rattle.rules.specs.declared.Mode.{Mode}
 use Rattle.rules.specs.declared.Mode.TheVariants as right
 use Rattle.rules.specs.Numbers.{BAD, ROOM}
-use Rattle.rules.specs.Calls.{Call}
 use Rattle.journal.specs.declared.Kind.{Kind}
 use Rattle.journal.specs.declared.Field.{Field}
 use Rattle.journal.specs.declared.Field.TheVariants as its
@@ -16,7 +15,7 @@ use Rattle.journal.specs.declared.Size.{Size}
 use Rattle.journal.specs.declared.Size.TheVariants.{Bytes, Bad}
 use Rattle.journal.specs.Numbers.{bytes_of}
 use Rattle.journal.specs.Fields.{text, ValueOf, ValuesOf, encode}
-use Rattle.journal.specs.Records.{Version, version_numbered, text_width, text_most, format_of, forms_of, fields_of, kind_numbered, Values, call_of, record_bytes}
+use Rattle.journal.specs.Records.{Version, version_numbered, text_width, text_most, format_of, forms_of, fields_of, kind_numbered, record_bytes}
 
 -- the mode of a number of at most 2
 abbrev pub mode_in : ℕ → Mode

@@ -24,7 +24,6 @@ use Rattle.journal.proofs.NumberLaws.{length_bytes_of}
 use Rattle.journal.specs.Fields.{encode, cap_bytes}
 use Rattle.journal.specs.declared.Version.{Version}
 use Rattle.journal.specs.Records.{text_width, text_most}
-use Rattle.journal.specs.VersionLaws.{width_most, text_most_lem}
 use Rattle.journal.specs.Table.{padded, fields_most}
 use Rattle.journal.specs.Writes.{mode_in, givable, givable_all, field_bytes, fields_bytes, field_size, fields_size, IsSmall}
 

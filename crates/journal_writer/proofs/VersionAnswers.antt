@@ -12,7 +12,7 @@ use Rattle.journal.specs.declared.Start.{Start}
 use Rattle.journal.specs.declared.Start.TheVariants.{Records, Fault}
 use Rattle.journal.specs.Records.{version_numbered}
 use Rattle.journal.specs.Journal.{version_start}
-use Rattle.journal.specs.Writes.{record_in, record_for, record_of, answer_of, buffer_of}
+use Rattle.journal.specs.Writes.{record_in, record_of, answer_of, buffer_of}
 
 version_is : (o : Option Version) (v : Version) → version_start o ≡ Records v → o ≡ some v
 version_is none v e = let z : ◌≡◌ {A = ℕ} 0 1 = cc in absurd (omega arith)

@@ -1,5 +1,5 @@
 -- Kept rows: the bytes of a kept text, and a fresh kept row stands for a fresh row. Assumes nothing.
-use Rattle.std.specs.Prelude.{◌≡◌, refl, List, map, ℕ, take}
+use Rattle.std.specs.Prelude.{◌≡◌, refl, List, ℕ, take}
 use Rattle.text.specs.Text.{path_limit, text_bytes}
 use Rattle.text.specs.TextLaws.{text_bytes_lem}
 use Rattle.rules.specs.Fresh.{fresh_token, fresh_entry, fresh_put, fresh_session}

@@ -5,7 +5,6 @@ use Rattle.std.proofs.Math.Nat.{min-eq_left, min-eq_right}
 use Rattle.std.proofs.Common.{arith, ltb-false, lit<, length-append}
 use Rattle.std.proofs.Math.Pow.{are_bytes}
 use Rattle.lists.specs.BoolLaws.{and_right}
-use Rattle.lists.specs.Bytes.{bytes}
 use Rattle.rules.specs.declared.Desk.{Desk}
 use Rattle.rules.specs.Fresh.{fresh_desk}
 use Rattle.rules.specs.Calls.{Call, step, rule}
