@@ -22,7 +22,7 @@ use Rattle.rules.specs.Fresh.{fresh_entry, fresh_relay}
 use Rattle.rules.specs.Tables.{used_entry, used_relay, free_relay, with_room}
 use Rattle.rules.specs.Relays.{health, shard_size, holds_shard, shards_on, loaded, too_few, taken, placement_of}
 use Rattle.rules.specs.Sound.{sound_relay, same_relay_row}
-use Rattle.rules.specs.Commit.{no_place, placed, and_placed, place_all}
+use Rattle.rules.specs.Commit.{no_place, and_placed, place_all}
 use Rattle.rules.proofs.Laws.ApartLaws.{used_not_free, not_free_used, other_part, either_part}
 use Rattle.rules.proofs.Laws.RowFacts.{relay_facts}
 use Rattle.rules.proofs.Laws.MappedLaws.{all_mapped}

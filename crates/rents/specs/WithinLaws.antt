@@ -1,6 +1,6 @@
 -- Laws of rent_within, raw_in and volume_rent: within the limits they are the rent and the raw bytes of the rules, and sound tables are within them.
 -- Assumes nothing.
-use Rattle.std.specs.Prelude.{◌≡◌, refl, Bool, true, false, cond, ◌&&◌, List, [], ◌∷◌, map, ℕ, ◌+◌, ◌-◌, ◌<◌, ◌≤◌, min, leb, length, get_or}
+use Rattle.std.specs.Prelude.{◌≡◌, refl, Bool, true, false, cond, ◌&&◌, List, [], ◌∷◌, map, ℕ, ◌+◌, ◌<◌, ◌≤◌, min, leb, length, get_or}
 use Rattle.std.proofs.Common.{sym, ◌∙◌, arith, le-leb, leb-true}
 use Rattle.lists.specs.Lists.{keep, sum_of, total}
 use Rattle.lists.specs.TestLaws.{all_at}

@@ -1,7 +1,7 @@
 -- Open and stage where the token's row is at hand: the rule of the row, if there is one, whether or not it is a row of the tables. Where it is the
 -- row that the tables have, these are the rules of open and stage (RowLaws). Assumes nothing.
-use Rattle.std.specs.Prelude.{Bool, ◌&&◌, cond, not, List, ℕ, leb}
-use Rattle.lists.specs.Lists.{Hit, hit, miss}
+use Rattle.std.specs.Prelude.{◌&&◌, cond, not, List, ℕ, leb}
+use Rattle.lists.specs.Lists.{Hit}
 use Rattle.text.specs.Text.{is_path}
 use Rattle.rules.specs.declared.Hash.{Hash}
 use Rattle.rules.specs.declared.Token.{Token}

@@ -25,7 +25,7 @@ use Rattle.rules.specs.Fresh.{fresh_token}
 use Rattle.rules.specs.Numbers.{NO_TOKEN, NOT_OWNER}
 use Rattle.rules.specs.Outcome.{refusal, refused, success}
 use Rattle.rules.specs.Scope.{descends}
-use Rattle.rules.specs.Tables.{is_volume, is_token, owned_by, volume_of, token_of, with_tokens}
+use Rattle.rules.specs.Tables.{is_volume, is_token, owned_by, volume_of, token_of}
 use Rattle.rules.specs.TokenCalls.{revoke_in, revoke_owner, revoke_rule}
 use Rattle.rows.specs.Blank.{blank_volume, blank_token}
 use Rattle.rows.specs.Links.{token_number, token_parent, row_if}

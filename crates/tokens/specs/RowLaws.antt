@@ -1,5 +1,5 @@
 -- The rules of a row that is handed to them are the rules of the token's number, where the row is that token's. Assumes nothing.
-use Rattle.std.specs.Prelude.{◌≡◌, refl, Bool, true, false, cond, List, ℕ}
+use Rattle.std.specs.Prelude.{◌≡◌, Bool, true, false, cond, List, ℕ}
 use Rattle.lists.specs.Lists.{hit, miss}
 use Rattle.rules.specs.declared.Account.{Account}
 use Rattle.rules.specs.declared.Tables.{Tables}

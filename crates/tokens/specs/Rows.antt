@@ -1,5 +1,5 @@
 -- The rules of the calls on tokens, of a row that is handed to them in place of the token's number. Assumes nothing.
-use Rattle.std.specs.Prelude.{Bool, not, cond, List, ℕ, leb}
+use Rattle.std.specs.Prelude.{not, cond, List, ℕ, leb}
 use Rattle.lists.specs.Lists.{Hit, hit, miss}
 use Rattle.text.specs.Text.{is_path}
 use Rattle.rules.specs.declared.Tables.{Tables}
