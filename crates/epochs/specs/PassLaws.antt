@@ -1,7 +1,7 @@
 -- An advance is its first part and then the collection, where it has one. Assumes nothing.
 use Rattle.std.specs.Prelude.{◌≡◌, Bool, ◌&&◌, cond, not, ℕ, leb}
 use Rattle.std.proofs.Math.Path.{refl}
-use Rattle.std.proofs.Common.{sym, ◌∙◌, ap}
+use Rattle.std.proofs.Common.{sym, ap}
 use Rattle.std.proofs.Math.Bool.{true, false}
 use Rattle.lists.specs.Lists.{any_of}
 use Rattle.rules.specs.declared.Tables.{Tables}

@@ -5,10 +5,10 @@ use mathlib.Core.List.{List, [], ◌∷◌}
 use Prim.Native.Nat.{ℕ, zero, suc, ◌+◌, ◌-◌, ◌<◌, ◌≤◌}
 use native.Mathlib.Omega.{arith}
 use borrow.Author.Rules.{rules}
-use borrow.Author.Tests.{lt-ltb, le-ltb, ltb-true, ltb-false}
+use borrow.Author.Tests.{lt-ltb, le-ltb, ltb-true}
 use lib.Dec.{ltb}
 use lib.ListN.{length, take, drop, drop_of_length-le}
-use lib.Seq.{take-nil, drop-nil, drop-drop}
+use lib.Seq.{take-nil, drop-drop}
 use Rattle.journal.specs.declared.Record.{Record}
 use Rattle.journal.specs.Places.{text_at}
 use Rattle.kept.specs.Kept.{bytes_in}

@@ -1,12 +1,11 @@
 -- Kept sessions: what they stand for after a call, and a search in their puts. Assumes nothing.
 use Rattle.std.specs.Prelude.{◌≡◌, refl, List, [], ◌∷◌, map, ℕ, zero, suc, take, set}
-use Rattle.std.proofs.Common.{sym, ◌∙◌}
+use Rattle.std.proofs.Common.{◌∙◌}
 use Rattle.std.proofs.Math.Path.{ap}
 use Rattle.lists.specs.Lists.{first_at}
 use Rattle.lists.specs.RowLaws.{first_map}
 use Rattle.rules.specs.declared.VolumeNo.{VolumeNo}
 use Rattle.rules.specs.declared.TokenNo.{TokenNo}
-use Rattle.rules.specs.declared.Put.{Put}
 use Rattle.rules.specs.Tables.{is_put, staged}
 use Rattle.rules.specs.SessionCalls.{opened, with_puts, restaged, staged_next}
 use Rattle.kept.specs.declared.KeptPut.{KeptPut}

@@ -1,6 +1,6 @@
 -- Register and heartbeat over the parts of the tables are their rules, and the row that they change is in the table. Assumes nothing.
 use Rattle.std.specs.Prelude.{◌≡◌, refl, Bool, true, false, cond, List, ℕ, ◌<◌, eqb, leb, ltb, length}
-use Rattle.std.proofs.Common.{sym, ◌∙◌, arith}
+use Rattle.std.proofs.Common.{◌∙◌, arith}
 use Rattle.lists.specs.Lists.{Hit, hit, miss, find}
 use Rattle.rules.specs.declared.RelayNo.{RelayNo}
 use Rattle.rules.specs.declared.Relay.{Relay}

@@ -1,6 +1,6 @@
 -- Register and heartbeat over the parts of the tables that they read: the answer, and the one row that is changed, if there is one. `RowLaws` says
 -- that it is what their rules give. Assumes nothing.
-use Rattle.std.specs.Prelude.{Bool, true, false, cond, List, ℕ, ◌+◌, eqb, leb, ltb, set}
+use Rattle.std.specs.Prelude.{true, false, cond, List, ℕ, ◌+◌, eqb, leb, ltb, set}
 use Rattle.lists.specs.Lists.{Hit, hit, miss, find}
 use Rattle.rules.specs.declared.RelayNo.{RelayNo}
 use Rattle.rules.specs.declared.Relay.{Relay}

@@ -16,7 +16,7 @@ use Rattle.rules.specs.Fresh.{fresh_entry}
 use Rattle.rules.specs.Tables.{is_volume, is_entry, with_volumes, with_entries, with_relays, with_version}
 use Rattle.rules.specs.Relays.{lightened}
 use Rattle.rules.specs.Outcome.{accepted}
-use Rattle.rules.specs.VolumeCalls.{drop_entries, removed, remove_entry, remove_in}
+use Rattle.rules.specs.VolumeCalls.{drop_entries, remove_entry, remove_in}
 use Rattle.rows.specs.Blank.{blank_volume, blank_entry}
 use Rattle.entries.specs.Marks.{marked, cleared_by}
 use Rattle.entries.specs.MarkLaws.{marked_keep, cleared_by_lem}

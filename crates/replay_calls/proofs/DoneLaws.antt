@@ -3,21 +3,20 @@
 use mathlib.Core.Path.{◌≡◌, refl, sym, ◌∙◌, ap}
 use mathlib.Core.Bool.{Bool, cond}
 use mathlib.Core.List.{List, map}
-use Prim.Native.Nat.{ℕ, ◌<◌}
+use Prim.Native.Nat.{ℕ}
 use lib.ListN.{get_or, replicate, get_or-map}
-use Rattle.lists.specs.Lists.{Hit, hit, miss, find}
+use Rattle.lists.specs.Lists.{hit, miss, find}
 use Rattle.rules.specs.declared.Account.{Account}
 use Rattle.rules.specs.declared.Hash.{Hash}
 use Rattle.rules.specs.declared.Relay.{Relay}
 use Rattle.rules.specs.declared.Token.{Token}
 use Rattle.rules.specs.declared.TokenNo.{TokenNo}
-use Rattle.rules.specs.declared.Volume.{Volume}
 use Rattle.rules.specs.declared.Tables.{Tables}
 use Rattle.rules.specs.Tables.{is_token, token_of}
 use Rattle.rules.specs.SessionCalls.{open_rule, stage_rule, abandon_rule}
 use Rattle.rules.specs.declared.Answer.{Answer}
 use Rattle.rules.specs.TokenCalls.{grant_rule, attenuate_rule, revoke_rule, look_rule}
-use Rattle.rules.specs.VolumeCalls.{create_rule, deposit_rule, undelete_rule, delete_rule, remove_rule}
+use Rattle.rules.specs.VolumeCalls.{delete_rule, remove_rule}
 use Rattle.rules.specs.Advance.{is_due, collect}
 use Rattle.rules.specs.Rent.{size_of}
 use Rattle.rents.specs.Within.{entry_volume}
@@ -48,7 +47,6 @@ use Rattle.kept_removes.specs.Parts.{on_kept_remove}
 use Rattle.kept_epochs.specs.declared.KeptCollect.{KeptCollect}
 use Rattle.kept_epochs.specs.Parts.{on_kept_collect}
 use Rattle.commits.specs.declared.Verdict.{Verdict}
-use Rattle.commits.specs.Parts.{on_commit}
 use Rattle.commits.specs.Stored.{StoredBy}
 use Rattle.commits.specs.Verdicts.{Judged}
 use Rattle.kept_commits.specs.declared.KeptCommit.{KeptCommit}
@@ -65,7 +63,7 @@ use Rattle.journal_calls.specs.declared.TokenCall.TheVariants as token
 use Rattle.journal_calls.specs.declared.SlotCall.{SlotCall}
 use Rattle.journal_calls.specs.declared.SlotCall.TheVariants as slot
 use Rattle.journal_calls.specs.NextLaws.{body_at}
-use Rattle.journal_calls.specs.Groups.{volume_ask, token_ask, look_ask, delete_ask, remove_ask, slot_work, BodyAt}
+use Rattle.journal_calls.specs.Groups.{volume_ask, BodyAt}
 use Rattle.journal_calls.specs.Parts.{Asked}
 use Rattle.kept.specs.declared.KeptToken.{KeptToken}
 use Rattle.kept.specs.declared.KeptEntry.{KeptEntry}

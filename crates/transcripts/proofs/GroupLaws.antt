@@ -23,7 +23,6 @@ use Rattle.rules.specs.Limits.{slot_rows}
 use Rattle.rules.specs.Numbers.{BAD}
 use Rattle.rules.specs.Fresh.{fresh_session}
 use Rattle.rules.specs.Outcome.{refusal, on_tables}
-use Rattle.rules.specs.Commit.{commit_rule}
 use Rattle.rules.specs.Sound.{sound_tables, sound_session}
 use Rattle.rules.proofs.Laws.SoundParts.{of_parts, tables_sound, slots_sound}
 use Rattle.rules.proofs.Laws.StaysSound.{DeskInvariant}
@@ -79,7 +78,7 @@ use Rattle.replay_calls.specs.declared.Held.{Held}
 use Rattle.replay_calls.specs.Held.{held_tables, VolumesDone, TokensDone, LookDone, DeleteDone, RemoveDone, PassDone, CollectDone, slot_at, SlotDone, CommitDone}
 use Rattle.replay_calls.specs.EarlyLaws.{early_rule}
 use Rattle.transcripts.specs.Parts.{desk_of}
-use Rattle.transcripts.proofs.ReplayLaws.{ReplayLoop, Answered, Carried}
+use Rattle.transcripts.proofs.ReplayLaws.{Answered, Carried}
 
 -- ---- a desk that calls reach is sound, and there the work of an advance and of a commit is its rule
 

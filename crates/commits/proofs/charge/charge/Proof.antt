@@ -1,5 +1,4 @@
 -- `charge::charge` meets its contract: row by row. Assumes nothing.
-use mathlib.Core.Logic.{⊎_elim}
 use Prim.Native.Nat.{◌-◌}
 use mathlib.Core.List.{map}
 use Rattle.lists.specs.ByteLoopLaws.{FillLoop, Fills-of}

@@ -2,7 +2,6 @@
 use Prim.Native.Nat.{◌-◌}
 use mathlib.Core.Bool.{false}
 use mathlib.Core.List.{map}
-use mathlib.Core.Logic.{⊎_elim}
 use lib.ListN.{replicate, take}
 use Rattle.lists.specs.ByteLoopLaws.{FillLoop, Fills-of}
 use Rattle.rules.specs.Commit.{is_replaced}

@@ -1,6 +1,5 @@
 -- `stores::count_kept_new` meets its contract: what is counted and what is left are the whole; before each entry, what was found with what is left
 -- is whether the volume has the path. Assumes nothing.
-use mathlib.Core.Logic.{⊎_elim}
 use Prim.Native.Nat.{◌-◌}
 use Rattle.lists.specs.RowLaws.{rows_length}
 use Rattle.kept_entries.specs.KeptEntries.{path_in}

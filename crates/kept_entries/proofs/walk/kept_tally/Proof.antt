@@ -1,5 +1,4 @@
 -- `walk::kept_tally` meets its contract: what was said and counted, with the entries that are left, is the whole. Assumes nothing.
-use mathlib.Core.Logic.{⊎_elim}
 use mathlib.Core.List.{[]}
 use Prim.Native.Nat.{◌-◌}
 use Rattle.kept_entries.specs.KeptEntries.{entries_in}

@@ -1,6 +1,6 @@
 -- `stage_put` meets its contract: the path has a place, or there is none left, or it takes the next. Assumes nothing.
 use borrow.Author.Rules.{rules}
-use Rattle.lists.specs.AnswerLaws.{checks, row_in_part}
+use Rattle.lists.specs.AnswerLaws.{row_in_part}
 use Rattle.lists.specs.RowLaws.{rows_length}
 use Rattle.kept_sessions.proofs.KeptAnswers.{stages_full, stages_next, stages_again}
 use Rattle.kept_sessions.proofs.stage.stage_put.Statement.{statement}
