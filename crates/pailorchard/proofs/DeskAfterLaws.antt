@@ -1,22 +1,19 @@
 -- What the replay that gives the desk leaves, return by return. Assumes nothing.
-use mathlib.Core.Path.{◌≡◌, refl, sym, ◌∙◌, ap}
-use mathlib.Core.Bool.{Bool, true, false, ◌||◌, cond}
-use mathlib.Core.List.{List, ◌++◌}
+use mathlib.Core.Path.{◌≡◌, refl, ◌∙◌, ap}
+use mathlib.Core.Bool.{Bool, true, false, cond}
+use mathlib.Core.List.{List}
 use Prim.Native.Nat.{ℕ, ◌<◌, ◌≤◌}
 use native.Mathlib.Omega.{arith}
 use lib.Dec.{ltb, eqb}
-use lib.ListN.{length, drop}
+use lib.ListN.{length}
 use borrow.Author.Tests.{lt-ltb, le-ltb, ne_eqb}
-use Rattle.rules.specs.declared.Desk.{Desk}
 use Rattle.rules.specs.Numbers.{ROOM}
-use Rattle.rules.specs.Fresh.{fresh_desk}
 use Rattle.journal.specs.declared.Written.{Written}
 use Rattle.transcripts.specs.declared.Replayed.{Replayed}
-use Rattle.printed.specs.Room.{room_for}
 use Rattle.printed.specs.Transcript as printed
 use Rattle.transcripts.specs.Replay as replays
 use Rattle.transcripts.specs.Replay.{answer_of, buffer_of, desk_after, replayed_of}
-use Rattle.desk_bytes.specs.Layout.{desk_bytes, desk_length}
+use Rattle.desk_bytes.specs.Layout.{desk_length}
 use Rattle.desk_bytes.specs.Writing as desks
 use Rattle.pailorchard.specs.DeskAfter.{too_short, desk_number, transcript_left, desk_left, length_left, desk_where}
 
