@@ -1,3 +1,4 @@
 pub mod OverLaws
 pub mod RowLoops
 pub mod WritingLaws
+pub mod LayoutLaws

@@ -1,4 +1,3 @@
 pub mod Layout
 pub mod Writing
 pub mod Written
-pub mod LayoutLaws

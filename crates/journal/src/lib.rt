@@ -2,7 +2,7 @@
 //
 // A record is a kind and the kind's list of fields. One table gives the lists; the reader and the writer go by it, so no
 // kind has code of its own. The definitions are in specs/: Numbers and Fields (the parts of a record), Records (the table
-// and the calls it stands for), Places (what the reader answers), Journal (the frame), Theorems (what is proved of them).
+// and the calls it stands for), Places (what the reader answers), Journal (the frame). Theorems, in proofs/, has what is proved of them.
 #![tactic(auto)]
 
 mod frame;

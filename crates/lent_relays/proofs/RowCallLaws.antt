@@ -4,7 +4,7 @@ use Rattle.std.proofs.Common.{sym, ap, ◌∙◌, subst}
 use Rattle.rules.specs.declared.Relay.{Relay}
 use Rattle.lent_relays.specs.declared.RowAnswer.{RowAnswer}
 use Rattle.lent_relays.specs.Lent.{rows_after}
-use Rattle.lent_relays.specs.LentLaws.{refused_rows, accepted_rows}
+use Rattle.lent_relays.proofs.LentLaws.{refused_rows, accepted_rows}
 
 -- a is what was decided on the rows t, which were copied from rows
 module _ (answer : List Relay → RowAnswer) (change : Relay → ℕ → Relay) (x : ℕ) (rows t : List Relay) (a : RowAnswer) (copied : t ≡ rows) (told : a ≡ answer t) where

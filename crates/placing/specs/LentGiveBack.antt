@@ -24,7 +24,7 @@ use Rattle.rules.proofs.Laws.ApartLaws.{used_not_free, not_free_used, other_part
 use Rattle.rules.proofs.Laws.RowFacts.{entry_facts, count_facts}
 use Rattle.rules.proofs.Laws.SoundParts.{parts_of}
 use Rattle.lent_relays.specs.Lent.{table_fits}
-use Rattle.lent_relays.specs.BackLaws.{back_all, given_relay, less_fits, back_all_lem}
+use Rattle.lent_relays.proofs.BackLaws.{back_all, given_relay, less_fits, back_all_lem}
 use Rattle.lent_relays.specs.FitLaws.{later_fits, mapped_fits, sound_fits}
 use Rattle.placing.specs.Room.{lightened_by}
 use Rattle.placing.specs.GiveLaws.{after_none, after_first, after_used, after_free, map_same, map_agrees}

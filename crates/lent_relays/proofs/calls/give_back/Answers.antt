@@ -2,7 +2,7 @@
 use Rattle.std.proofs.Common.{arith}
 use Rattle.rows.specs.Blank.{blank_relay}
 use Rattle.lent_relays.specs.Lent.{lighter, back_answer}
-use Rattle.lent_relays.specs.LentLaws.{back_size, back_in_lem}
+use Rattle.lent_relays.proofs.LentLaws.{back_size, back_in_lem}
 use Rattle.lent_relays.proofs.RowCallLaws.{none_changed, row_refused, row_below, row_changed}
 use Rattle.lent_relays.proofs.calls.give_back.Goals as goal
 

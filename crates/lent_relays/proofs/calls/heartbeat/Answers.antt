@@ -3,7 +3,7 @@ use Rattle.std.proofs.Common.{arith}
 use Rattle.rules.specs.Tables.{with_beat}
 use Rattle.rows.specs.Blank.{blank_relay}
 use Rattle.lent_relays.specs.Lent.{beat_answer}
-use Rattle.lent_relays.specs.LentLaws.{beat_size, beat_in_lem}
+use Rattle.lent_relays.proofs.LentLaws.{beat_size, beat_in_lem}
 use Rattle.lent_relays.proofs.RowCallLaws.{none_changed, row_refused, row_below, row_changed}
 use Rattle.lent_relays.proofs.calls.heartbeat.Goals as goal
 
