@@ -139,7 +139,8 @@ pub(crate) fn replay_records(v: Version, journal: &[u8], out: &mut [u8], start: 
                 let volumes = o.volumes;
                 t.volumes = volumes;
                 relays = o.relays;
-                if o.due {
+                let due = o.due;
+                if due {
                     let c = collect_call(t, h, relays, item.fields.amount);
                     let volumes = c.volumes;
                     t.volumes = volumes;
