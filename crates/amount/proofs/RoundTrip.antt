@@ -1,22 +1,21 @@
 -- What is promised of writing: the unit is the largest that divides the count, and reading what was written gives the cap again.
-use Rattle.std.specs.Prelude.{◌≡◌, refl, Bool, true, false, cond, List, [], ◌∷◌, ◌++◌, ℕ, zero, suc, ◌/◌, ◌%◌, ◌^◌, ◌<◌, ◌≤◌, eqb, ltb, length, take, drop, get_or}
+use Rattle.std.specs.Prelude.{◌≡◌, refl, Bool, true, false, cond, List, [], ◌∷◌, ◌++◌, ℕ, zero, suc, ◌/◌, ◌%◌, ◌^◌, ◌<◌, ◌≤◌, eqb, ltb, length, take, drop, get_or, Ok, Err}
 use Rattle.std.proofs.Common.{sym, ◌∙◌, append-nil, mul-one, div-add-mod', div-le_self, arith, eqb-true, ltb-false, ne_eqb, le-leb, lit≤, take_at}
 use Rattle.std.proofs.Math.Bool.{and-false}
 use Rattle.std.proofs.lemmas.Bool.{false≢true}
 use Rattle.std.proofs.Math.Nat.{mod-one}
-use Rattle.amount.specs.declared.ByteUnit.{ByteUnit}
-use Rattle.amount.specs.declared.ByteUnit.TheVariants.{B, KiB, MiB, GiB}
+use Rattle.amount.specs.declared.unit.ByteUnit.{ByteUnit}
+use Rattle.amount.specs.declared.unit.ByteUnit.TheVariants.{B, KiB, MiB, GiB}
 use Rattle.amount.specs.declared.Cap.{Cap}
 use Rattle.amount.specs.declared.Cap.TheVariants.{Unlimited, Bytes}
-use Rattle.amount.specs.declared.ReadAmount.TheVariants.{Read}
-use Rattle.amount.specs.declared.Written.TheVariants.{Length, Refused as WrittenRefused}
+use Rattle.amount.specs.declared.error.AmountError.TheVariants.{Room, TooLarge}
 use Rattle.amount.specs.Digits.{decimal_within, decimal}
 use Rattle.amount.specs.DecimalLaws.{decimal_digits, decimal_number, decimal_some, decimal_length, decimal_first}
-use Rattle.amount.specs.Amount.{too_large, limit, space, unlimited_text, size_of, name_of, leading_zero, whole_digits, amount, parse, amount_of}
+use Rattle.amount.specs.Amount.{limit, space, unlimited_text, size_of, name_of, leading_zero, whole_digits, amount, parse, amount_of}
 use Rattle.amount.specs.AmountLaws.{size_most}
 use Rattle.amount.specs.AmountTheorems.{Exactly, read_exactly, unlimited_exactly}
 use Rattle.amount.specs.Grammar.{plain, parse_spelled}
-use Rattle.amount.specs.Writing.{room, divides, unit_for, text_of, above_limit, written_of, buffer_after}
+use Rattle.amount.specs.Writing.{divides, unit_for, text_of, above_limit, written_of, buffer_after}
 
 -- The digits of a number have no leading 0, but for those of 0.
 decimal_no_zero : (n : ℕ) → leading_zero (decimal n) ≡ false
@@ -69,7 +68,7 @@ units_exactly n =
     (omega (arith, div-add-mod' n (size_of (unit_for n)), unit_divides n))
 
 -- A cap that can be written is no limit, or a count up to 2^36. Reading its text gives it again.
-pub round_trip : (cap : Cap) → above_limit cap ≡ false → amount_of (text_of cap) ≡ Read cap
+pub round_trip : (cap : Cap) → above_limit cap ≡ false → amount_of (text_of cap) ≡ Ok cap
 unfolding text_of
 round_trip Unlimited h = (unlimited_exactly unlimited_text).1 refl
 round_trip (Bytes n) h =
@@ -80,19 +79,19 @@ round_trip (Bytes n) h =
     (read_exactly (text_of (Bytes n)) (decimal q) [] u parsed n).1 (units_exactly n, l)
 
 -- Where writing answers a length, the cap can be written and its text has that length.
-length_written : (cap : Cap) (size n : ℕ) → written_of cap size ≡ Length n → (above_limit cap ≡ false) × (length (text_of cap) ≡ n)
+length_written : (cap : Cap) (size n : ℕ) → written_of cap size ≡ Ok n → (above_limit cap ≡ false) × (length (text_of cap) ≡ n)
 unfolding written_of
 length_written cap size n = go (above_limit cap) (ltb size (length (text_of cap))) refl
   where
     go : (a s : Bool) → above_limit cap ≡ a
-        → cond a (WrittenRefused too_large) (cond s (WrittenRefused room) (Length (length (text_of cap)))) ≡ Length n
+        → cond a (Err TooLarge) (cond s (Err Room) (Ok (length (text_of cap)))) ≡ Ok n
         → (above_limit cap ≡ false) × (length (text_of cap) ≡ n)
     go true s h e = absurd (let z : ◌≡◌ {A = ℕ} 0 1 = cc in omega arith)
     go false true h e = absurd (let z : ◌≡◌ {A = ℕ} 0 1 = cc in omega arith)
     go false false h e = (h, cc)
 
 -- Whatever the buffer: where writing answers a length, reading that many bytes of the buffer gives the cap again.
-pub written_round_trip : (cap : Cap) (buf : List ℕ) (n : ℕ) → written_of cap (length buf) ≡ Length n → amount_of (take n (buffer_after cap buf)) ≡ Read cap
+pub written_round_trip : (cap : Cap) (buf : List ℕ) (n : ℕ) → written_of cap (length buf) ≡ Ok n → amount_of (take n (buffer_after cap buf)) ≡ Ok cap
 unfolding buffer_after
 written_round_trip cap buf n e =
     let w = length_written cap (length buf) n e in

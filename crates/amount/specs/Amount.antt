@@ -1,24 +1,20 @@
 -- Which cap a text names (01, "Typed amounts"): the grammar first, then the number. Assumes nothing.
-use Rattle.std.specs.Prelude.{Bool, ◌&&◌, ◌||◌, not, cond, List, [], ◌∷◌, ◌++◌, ℕ, ◌*◌, ◌/◌, ◌%◌, ◌^◌, eqb, leb, ltb, length, get_or}
-use Rattle.amount.specs.declared.ByteUnit.{ByteUnit}
-use Rattle.amount.specs.declared.ByteUnit.TheVariants.{B, KiB, MiB, GiB}
+use Rattle.std.specs.Prelude.{Bool, ◌&&◌, ◌||◌, not, cond, List, [], ◌∷◌, ◌++◌, ℕ, ◌*◌, ◌/◌, ◌%◌, ◌^◌, eqb, leb, ltb, length, get_or, Option, Some, None, Result, Ok, Err}
+use Rattle.amount.specs.declared.error.AmountError.{AmountError}
+use Rattle.amount.specs.declared.error.AmountError.TheVariants.{Room, Text, NotWhole, TooLarge}
+use Rattle.amount.specs.declared.unit.ByteUnit.{ByteUnit}
+use Rattle.amount.specs.declared.unit.ByteUnit.TheVariants.{B, KiB, MiB, GiB}
+use Rattle.amount.specs.declared.Cap.{Cap}
 use Rattle.amount.specs.declared.Cap.TheVariants.{Unlimited, Bytes}
-use Rattle.amount.specs.declared.ReadAmount.{ReadAmount}
-use Rattle.amount.specs.declared.ReadAmount.TheVariants.{Read, Refused}
-use Rattle.amount.specs.declared.UnitFound.{UnitFound}
-use Rattle.amount.specs.declared.UnitFound.TheVariants.{Is, Nothing}
 use Rattle.lists.specs.Bytes.{bytes, same_bytes}
 use Rattle.amount.specs.Digits.{leading, following, number}
 
--- The refusal numbers of reading: 22 TEXT, 23 NOT WHOLE, 24 TOO LARGE.
-abbrev pub text_refusal : ℕ
-text_refusal = 22
-
-abbrev pub not_whole : ℕ
-not_whole = 23
-
-abbrev pub too_large : ℕ
-too_large = 24
+-- The number of each refusal: 12 ROOM, 22 TEXT, 23 NOT WHOLE, 24 TOO LARGE.
+abbrev pub error_number : AmountError → ℕ
+error_number Room = 12
+error_number Text = 22
+error_number NotWhole = 23
+error_number TooLarge = 24
 
 -- "a byte count up to 2^36"
 abbrev pub limit : ℕ
@@ -56,12 +52,12 @@ name_of MiB = bytes "MiB"
 name_of GiB = bytes "GiB"
 
 -- The unit that has this name.
-unfoldable pub unit_named : List ℕ → UnitFound
+unfoldable pub unit_named : List ℕ → Option ByteUnit
 unit_named t =
-    cond (same_bytes t (name_of B)) (Is B)
-    (cond (same_bytes t (name_of KiB)) (Is KiB)
-    (cond (same_bytes t (name_of MiB)) (Is MiB)
-    (cond (same_bytes t (name_of GiB)) (Is GiB) Nothing)))
+    cond (same_bytes t (name_of B)) (Some B)
+    (cond (same_bytes t (name_of KiB)) (Some KiB)
+    (cond (same_bytes t (name_of MiB)) (Some MiB)
+    (cond (same_bytes t (name_of GiB)) (Some GiB) None)))
 
 -- What a text is by the grammar: whole digits, fraction digits and a unit; or none of it.
 pub data Parsed : Type 0 where
@@ -89,14 +85,14 @@ abbrev pub is_mark : ℕ → Bool
 is_mark b = eqb b comma || eqb b point
 
 -- "one space, then B, KiB, MiB or GiB", and nothing after it.
-unfoldable pub unit_after : List ℕ → UnitFound
-unit_after [] = Nothing
-unit_after (b ∷ t) = cond (eqb b space) (unit_named t) Nothing
+unfoldable pub unit_after : List ℕ → Option ByteUnit
+unit_after [] = None
+unit_after (b ∷ t) = cond (eqb b space) (unit_named t) None
 
 -- The whole digits w and the fraction digits f, with the unit that was found after them.
-abbrev pub with_unit : List ℕ → List ℕ → UnitFound → Parsed
-with_unit w f (Is u) = amount w f u
-with_unit w f Nothing = no_amount
+abbrev pub with_unit : List ℕ → List ℕ → Option ByteUnit → Parsed
+with_unit w f (Some u) = amount w f u
+with_unit w f None = no_amount
 
 -- After the whole digits w: "optionally one comma or point and 1 to 9 digits", then the unit.
 unfoldable pub after_whole : List ℕ → List ℕ → Parsed
@@ -111,22 +107,22 @@ unfoldable pub parse : List ℕ → Parsed
 parse t = cond (whole_digits (leading t)) (after_whole (leading t) (following t)) no_amount
 
 -- The cap of n / p bytes. "Not a whole number of bytes: 23. Then above 2^36: 24."
-unfoldable pub counted : ℕ → ℕ → ReadAmount
+unfoldable pub counted : ℕ → ℕ → Result Cap AmountError
 counted n p =
     cond (eqb (n % p) 0)
-    (cond (leb (n / p) limit) (Read (Bytes (n / p))) (Refused too_large))
-    (Refused not_whole)
+    (cond (leb (n / p) limit) (Ok (Bytes (n / p))) (Err TooLarge))
+    (Err NotWhole)
 
 -- The number: whole and fraction digits as one number, times the unit, over 10 to the count of fraction digits. "Anything else is 22."
-abbrev pub amount_parsed : Parsed → ReadAmount
+abbrev pub amount_parsed : Parsed → Result Cap AmountError
 amount_parsed (amount w f u) = counted (number (w ++ f) * size_of u) (10 ^ length f)
-amount_parsed no_amount = Refused text_refusal
+amount_parsed no_amount = Err Text
 
 -- "If an answer is an enum, a definition gives this paper's number": 0 where the text is read, or the refusal's.
-abbrev pub read_number : ReadAmount → ℕ
-read_number (Read cap) = 0
-read_number (Refused n) = n
+abbrev pub read_number : Result Cap AmountError → ℕ
+read_number (Ok cap) = 0
+read_number (Err e) = error_number e
 
 -- The cap that a text names, or the refusal.
-unfoldable pub amount_of : List ℕ → ReadAmount
-amount_of t = cond (same_bytes t unlimited_text) (Read Unlimited) (amount_parsed (parse t))
+unfoldable pub amount_of : List ℕ → Result Cap AmountError
+amount_of t = cond (same_bytes t unlimited_text) (Ok Unlimited) (amount_parsed (parse t))

@@ -1,16 +1,14 @@
 -- Laws of the definitions in Amount.antt: the units, and the division in two parts, whole and fraction.
-use Rattle.std.specs.Prelude.{◌≡◌, refl, Bool, true, false, ◌&&◌, cond, List, [], ◌∷◌, ℕ, ◌+◌, ◌*◌, ◌/◌, ◌%◌, ◌^◌, ◌<◌, ◌≤◌, eqb}
+use Rattle.std.specs.Prelude.{◌≡◌, refl, Bool, true, false, ◌&&◌, cond, List, [], ◌∷◌, ℕ, ◌+◌, ◌*◌, ◌/◌, ◌%◌, ◌^◌, ◌<◌, ◌≤◌, eqb, Option, Some, None, Ok, Err}
 use Rattle.std.proofs.Common.{sym, ◌∙◌, add-mul, mul_comm, mul_right_comm, mul-le-mul, lt_of_lt_of_le, lt_of_le_of_lt, le-add_right, mul-lt-mul_of_pos_right, div-lt_iff_lt-mul, le-div_iff_mul-le, arith, lit<, lit≤}
 use Rattle.std.proofs.Math.Nat.{mul-add-div_right, mul-add-mod_self_right, pow-le-pow_right, one-le-pow}
 use borrow.Author.Tests.{eq-eqb, ne_eqb, le-leb, lt-leb}
 use Rattle.lists.specs.Bytes.{same_bytes}
-use Rattle.amount.specs.declared.ByteUnit.{ByteUnit}
-use Rattle.amount.specs.declared.ByteUnit.TheVariants.{B, KiB, MiB, GiB}
+use Rattle.amount.specs.declared.unit.ByteUnit.{ByteUnit}
+use Rattle.amount.specs.declared.unit.ByteUnit.TheVariants.{B, KiB, MiB, GiB}
 use Rattle.amount.specs.declared.Cap.TheVariants.{Bytes}
-use Rattle.amount.specs.declared.ReadAmount.TheVariants.{Read, Refused}
-use Rattle.amount.specs.declared.UnitFound.{UnitFound}
-use Rattle.amount.specs.declared.UnitFound.TheVariants.{Is, Nothing}
-use Rattle.amount.specs.Amount.{limit, not_whole, too_large, space, size_of, name_of, unit_named, unit_after, counted}
+use Rattle.amount.specs.declared.error.AmountError.TheVariants.{NotWhole, TooLarge}
+use Rattle.amount.specs.Amount.{limit, space, size_of, name_of, unit_named, unit_after, counted}
 
 -- A unit has from 1 to 2^30 bytes.
 pub size_pos : (u : ByteUnit) → 0 < size_of u
@@ -29,16 +27,16 @@ pub power_pos : (k : ℕ) → 0 < 10 ^ k
 power_pos k = one-le-pow k 10 (lit< tt)
 
 -- The unit by all that stands after the number: a space and a name.
-pub unit_compared : (t : List ℕ) (r : UnitFound)
-    → r ≡ cond (same_bytes t (space ∷ name_of B)) (Is B) (cond (same_bytes t (space ∷ name_of KiB)) (Is KiB) (cond (same_bytes t (space ∷ name_of MiB)) (Is MiB) (cond (same_bytes t (space ∷ name_of GiB)) (Is GiB) Nothing)))
+pub unit_compared : (t : List ℕ) (r : Option ByteUnit)
+    → r ≡ cond (same_bytes t (space ∷ name_of B)) (Some B) (cond (same_bytes t (space ∷ name_of KiB)) (Some KiB) (cond (same_bytes t (space ∷ name_of MiB)) (Some MiB) (cond (same_bytes t (space ∷ name_of GiB)) (Some GiB) None)))
     → r ≡ unit_after t
-unfolding unit_after unit_named same_bytes
+unfolding unit_after unit_named
 unit_compared [] r e = e
 unit_compared (b ∷ t) r e = e ∙ go (eqb b space)
   where
     go : (q : Bool)
-        → cond (q && same_bytes t (name_of B)) (Is B) (cond (q && same_bytes t (name_of KiB)) (Is KiB) (cond (q && same_bytes t (name_of MiB)) (Is MiB) (cond (q && same_bytes t (name_of GiB)) (Is GiB) Nothing)))
-        ≡ cond q (unit_named t) Nothing
+        → cond (q && same_bytes t (name_of B)) (Some B) (cond (q && same_bytes t (name_of KiB)) (Some KiB) (cond (q && same_bytes t (name_of MiB)) (Some MiB) (cond (q && same_bytes t (name_of GiB)) (Some GiB) None)))
+        ≡ cond q (unit_named t) None
     go true = refl
     go false = refl
 
@@ -55,15 +53,15 @@ module _ (w f p u : ℕ) where
 
 -- The three answers of a division.
 module _ (n p : ℕ) where
-  pub counted_part : (n % p ≡ 0 → ⊥) → counted n p ≡ Refused not_whole
+  pub counted_part : (n % p ≡ 0 → ⊥) → counted n p ≡ Err NotWhole
   unfolding counted
   counted_part h = rw (ne_eqb (n % p) 0 h)
 
-  pub counted_above : n % p ≡ 0 → limit < n / p → counted n p ≡ Refused too_large
+  pub counted_above : n % p ≡ 0 → limit < n / p → counted n p ≡ Err TooLarge
   unfolding counted
   counted_above h l = rw (eq-eqb (n % p) 0 h, lt-leb (n / p) limit l)
 
-  pub counted_read : n % p ≡ 0 → n / p ≤ limit → counted n p ≡ Read (Bytes (n / p))
+  pub counted_read : n % p ≡ 0 → n / p ≤ limit → counted n p ≡ Ok (Bytes (n / p))
   unfolding counted
   counted_read h l = rw (eq-eqb (n % p) 0 h, le-leb (n / p) limit l)
 
@@ -95,17 +93,17 @@ module _ (w f k : ℕ) (u : ByteUnit) {power bytes : ℕ} (ep : power ≡ 10 ^ k
   quotient : (w * 10 ^ k + f) * size_of u / 10 ^ k ≡ w * bytes + f * bytes / power
   quotient = rw (ep, eb) (part_quotient w f (10 ^ k) (size_of u) (power_pos k))
 
-  pub parts_part : (f * bytes % power ≡ 0 → ⊥) → counted ((w * 10 ^ k + f) * size_of u) (10 ^ k) ≡ Refused not_whole
+  pub parts_part : (f * bytes % power ≡ 0 → ⊥) → counted ((w * 10 ^ k + f) * size_of u) (10 ^ k) ≡ Err NotWhole
   parts_part h = counted_part _ _ (λ e. h (sym remainder ∙ e))
 
-  pub parts_above : f * bytes % power ≡ 0 → limit < w * bytes + f * bytes / power → counted ((w * 10 ^ k + f) * size_of u) (10 ^ k) ≡ Refused too_large
+  pub parts_above : f * bytes % power ≡ 0 → limit < w * bytes + f * bytes / power → counted ((w * 10 ^ k + f) * size_of u) (10 ^ k) ≡ Err TooLarge
   parts_above h l = counted_above _ _ (remainder ∙ h) (rw quotient l)
 
-  pub parts_far : f * bytes % power ≡ 0 → limit / bytes < w → counted ((w * 10 ^ k + f) * size_of u) (10 ^ k) ≡ Refused too_large
+  pub parts_far : f * bytes % power ≡ 0 → limit / bytes < w → counted ((w * 10 ^ k + f) * size_of u) (10 ^ k) ≡ Err TooLarge
   parts_far h l = parts_above h (lt_of_lt_of_le (whole_above w bytes (rw eb (size_pos u)) l) (le-add_right _ _))
 
   pub parts_read : f * bytes % power ≡ 0 → w * bytes + f * bytes / power ≤ limit
-      → counted ((w * 10 ^ k + f) * size_of u) (10 ^ k) ≡ Read (Bytes (w * bytes + f * bytes / power))
+      → counted ((w * 10 ^ k + f) * size_of u) (10 ^ k) ≡ Ok (Bytes (w * bytes + f * bytes / power))
   parts_read h l = counted_read _ _ (remainder ∙ h) (rw quotient l) ∙ rw quotient
 
   -- The count fits in 64 bits before it is held to the limit.

@@ -1,9 +1,10 @@
 -- Laws of `decimal`: its digits are digits, they write the number, and there are no more of them than needed.
-use Rattle.std.specs.Prelude.{◌≡◌, refl, Bool, true, false, cond, List, [], ◌∷◌, ◌++◌, ℕ, zero, suc, ◌+◌, ◌*◌, ◌/◌, ◌%◌, ◌^◌, ◌<◌, ◌≤◌, ltb, length, get_or}
-use Rattle.std.proofs.Common.{ap, sym, ◌∙◌, pow-suc, arith, lt-ltb, le-ltb, le-leb, ltb-true, ltb-false, lit≤, length-append}
+use Rattle.std.specs.Prelude.{◌≡◌, refl, Bool, true, false, cond, List, [], ◌∷◌, ◌++◌, ℕ, zero, suc, ◌+◌, ◌*◌, ◌/◌, ◌%◌, ◌^◌, ◌<◌, ◌≤◌, max, ltb, length, get_or}
+use Rattle.std.proofs.Common.{ap, sym, ◌∙◌, pow-suc, arith, lt-ltb, le-ltb, le-leb, ltb-true, ltb-false, lit≤, lit<, length-append}
+use Rattle.std.proofs.Math.Nat.{pow-succ', pow-le-pow_right}
 use Rattle.std.proofs.Math.ListN.{get_or-append}
 use Rattle.amount.specs.Digits.{is_digit, leading, following, number_after, number, digit, decimal_within, decimal}
-use Rattle.amount.specs.DigitLaws.{number_append}
+use Rattle.amount.specs.DigitLaws.{number_append, number_below}
 
 -- The bound on the count of digits does not matter once it is large enough.
 within_small : (k n : ℕ) → n < 10 → decimal_within k n ≡ digit n ∷ []
@@ -16,7 +17,7 @@ unfolding decimal_within
 within_more k n h = rw (le-ltb n 10 h)
 
 -- A number is below 10, or a number with one digit less and a last digit.
-small_or_more : (n : ℕ) (P : Type 0) → (n < 10 → P) → (10 ≤ n → P) → P
+pub small_or_more : (n : ℕ) (P : Type 0) → (n < 10 → P) → (10 ≤ n → P) → P
 small_or_more n P a b = go (ltb n 10) refl
   where
     go : (d : Bool) → ltb n 10 ≡ d → P
@@ -121,3 +122,19 @@ decimal_first = decimal_ind (λ n. 1 ≤ n → 48 < get_or (decimal n) 0 0) smal
 
     more : (n : ℕ) → 10 ≤ n → (1 ≤ n / 10 → 48 < get_or (decimal (n / 10)) 0 0) → 1 ≤ n → 48 < get_or (decimal n) 0 0
     more n h r l = rw (decimal_more n h, get_or-append (decimal (n / 10)) (digit (n % 10) ∷ []) 0 0 (decimal_some (n / 10))) (r (omega arith))
+
+-- How many digits a number has, by the power of ten below it; 0 has one, as 1 has.
+pub length_by_power : (n k : ℕ) → 10 ^ k ≤ max n 1 → max n 1 < 10 * 10 ^ k → k + 1 ≡ length (decimal n)
+length_by_power n k low high =
+    let few : length (decimal n) ≤ suc k = decimal_length n k (rw (pow-succ' 10 k) (omega arith)) in
+    let some : 1 ≤ length (decimal n) = decimal_some n in
+    let below : n < 10 ^ length (decimal n) = rw (decimal_digits n, decimal_number n) at (number_below (decimal n)) in
+    go (ltb k (length (decimal n))) refl few some below
+  where
+    go : (b : Bool) → ltb k (length (decimal n)) ≡ b → length (decimal n) ≤ suc k → 1 ≤ length (decimal n) → n < 10 ^ length (decimal n) → k + 1 ≡ length (decimal n)
+    go true e few some below = let h = ltb-true k _ e in omega arith
+    go false e few some below =
+        let h = ltb-false k _ e in
+        let p = pow-le-pow_right {n = 10} (lit< tt) {i = length (decimal n)} {j = k} h in
+        let q = pow-le-pow_right {n = 10} (lit< tt) {i = 1} {j = length (decimal n)} some in
+        absurd (omega arith)

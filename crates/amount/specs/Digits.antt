@@ -1,5 +1,5 @@
 -- Decimal digits: the run of them that a text begins with, the number that they write, and the digits of a number.
-use Rattle.std.specs.Prelude.{Bool, ◌&&◌, cond, List, [], ◌∷◌, ◌++◌, ℕ, zero, suc, ◌+◌, ◌-◌, ◌*◌, ◌/◌, ◌%◌, leb, ltb}
+use Rattle.std.specs.Prelude.{◌≡◌, Bool, ◌&&◌, cond, List, [], ◌∷◌, ◌++◌, ℕ, zero, suc, ◌+◌, ◌-◌, ◌*◌, ◌/◌, ◌%◌, leb, ltb}
 
 -- A byte is one of the digits 0 to 9.
 abbrev pub is_digit : ℕ → Bool
@@ -14,6 +14,10 @@ leading (b ∷ t) = cond (is_digit b) (b ∷ leading t) []
 unfoldable pub following : List ℕ → List ℕ
 following [] = []
 following (b ∷ t) = cond (is_digit b) (following t) (b ∷ t)
+
+-- Every byte is a digit.
+abbrev pub AllDigits : List ℕ → Type 0
+AllDigits d = leading d ≡ d
 
 -- The number that digits write after n, most significant first.
 unfoldable pub number_after : ℕ → List ℕ → ℕ

@@ -1,20 +1,14 @@
 -- The grammar of an amount, read from the text's side: `parse` takes exactly the texts that are put together as the paper says.
-use Rattle.std.specs.Prelude.{◌≡◌, refl, Bool, true, false, ◌||◌, cond, List, [], ◌∷◌, ◌++◌, ◌↔◌, ◌⊎◌, ℕ, eqb}
+use Rattle.std.specs.Prelude.{◌≡◌, refl, Bool, true, false, ◌||◌, cond, List, [], ◌∷◌, ◌++◌, ◌↔◌, ◌⊎◌, ℕ, eqb, length, get_or, Option, Some, None}
 use Rattle.std.proofs.Common.{ap, sym, ◌∙◌, append-nil, inl, inr, ⊎_elim, arith, eqb-true}
-use Rattle.amount.specs.declared.ByteUnit.{ByteUnit}
-use Rattle.amount.specs.declared.ByteUnit.TheVariants.{B, KiB, MiB, GiB}
-use Rattle.amount.specs.declared.UnitFound.{UnitFound}
-use Rattle.amount.specs.declared.UnitFound.TheVariants.{Is, Nothing}
+use Rattle.amount.specs.declared.unit.ByteUnit.{ByteUnit}
+use Rattle.amount.specs.declared.unit.ByteUnit.TheVariants.{B, KiB, MiB, GiB}
 use Rattle.lists.specs.Bytes.{same_bytes}
-use Rattle.amount.specs.Digits.{is_digit, leading, following}
+use Rattle.amount.specs.Digits.{is_digit, leading, following, AllDigits}
 use Rattle.amount.specs.DigitLaws.{leading_following}
 use Rattle.lists.specs.ByteLaws.{same_eq}
 use Rattle.amount.specs.DecimalLaws.{leading_append, following_append}
 use Rattle.amount.specs.Amount.{space, comma, point, name_of, unit_named, unit_after, amount, no_amount, whole_digits, fraction_digits, is_mark, with_unit, after_whole, parse}
-
--- Every byte is a digit.
-abbrev pub AllDigits : List ℕ → Type 0
-AllDigits d = leading d ≡ d
 
 -- One space and the unit's name.
 abbrev pub unit_text : ByteUnit → List ℕ
@@ -27,21 +21,21 @@ pub data Spells (w : List ℕ) (u : ByteUnit) : List ℕ → List ℕ → Type 0
       → Spells w u f (w ++ (m ∷ (f ++ unit_text u)))
 
 -- A unit is read back by its name, and only by it.
-pub unit_back : (u : ByteUnit) → unit_after (unit_text u) ≡ Is u
-unfolding unit_after unit_named same_bytes
+pub unit_back : (u : ByteUnit) → unit_after (unit_text u) ≡ Some u
+unfolding unit_after unit_named
 unit_back B = refl
 unit_back KiB = refl
 unit_back MiB = refl
 unit_back GiB = refl
 
-pick : (b : Bool) (t n : List ℕ) (v u : ByteUnit) (r : UnitFound) → same_bytes t n ≡ b → n ≡ name_of v → (r ≡ Is u → t ≡ name_of u) → cond b (Is v) r ≡ Is u → t ≡ name_of u
+pick : (b : Bool) (t n : List ℕ) (v u : ByteUnit) (r : Option ByteUnit) → same_bytes t n ≡ b → n ≡ name_of v → (r ≡ Some u → t ≡ name_of u) → cond b (Some v) r ≡ Some u → t ≡ name_of u
 pick true t n v u r q k next e = let i : v ≡ u = cc in same_eq t n q ∙ k ∙ ap name_of i
 pick false t n v u r q k next e = next e
 
-none_is : (u : ByteUnit) (t : List ℕ) → Nothing ≡ Is u → t ≡ name_of u
+none_is : (u : ByteUnit) (t : List ℕ) → None ≡ Some u → t ≡ name_of u
 none_is u t e = absurd (let z : ◌≡◌ {A = ℕ} 0 1 = cc in omega arith)
 
-unit_name : (t : List ℕ) (u : ByteUnit) → unit_named t ≡ Is u → t ≡ name_of u
+unit_name : (t : List ℕ) (u : ByteUnit) → unit_named t ≡ Some u → t ≡ name_of u
 unfolding unit_named
 unit_name t u =
     pick _ t (name_of B) B u _ refl refl
@@ -49,12 +43,40 @@ unit_name t u =
     (pick _ t (name_of MiB) MiB u _ refl refl
     (pick _ t (name_of GiB) GiB u _ refl refl (none_is u t))))
 
-unit_text_lem : (t : List ℕ) (u : ByteUnit) → unit_after t ≡ Is u → t ≡ unit_text u
+-- A unit's name has 1 byte or 3.
+pub no_name : (t : List ℕ) → (length t ≡ 1 → ⊥) → (length t ≡ 3 → ⊥) → None ≡ unit_named t
+no_name t h k = go (unit_named t) refl
+  where
+    long : (u : ByteUnit) → t ≡ name_of u → ⊥
+    long B e = h (ap length e)
+    long KiB e = k (ap length e)
+    long MiB e = k (ap length e)
+    long GiB e = k (ap length e)
+
+    go : (r : Option ByteUnit) → unit_named t ≡ r → None ≡ unit_named t
+    go None e = sym e
+    go (Some u) e = absurd (long u (unit_name t u e))
+
+-- And one of 3 begins with K, M or G.
+pub no_letter : (t : List ℕ) → (length t ≡ 1 → ⊥) → (get_or t 0 0 ≡ 75 → ⊥) → (get_or t 0 0 ≡ 77 → ⊥) → (get_or t 0 0 ≡ 71 → ⊥) → None ≡ unit_named t
+no_letter t h k m g = go (unit_named t) refl
+  where
+    first : (u : ByteUnit) → t ≡ name_of u → ⊥
+    first B e = h (ap length e)
+    first KiB e = k (ap (λ (l : List ℕ). get_or l 0 0) e)
+    first MiB e = m (ap (λ (l : List ℕ). get_or l 0 0) e)
+    first GiB e = g (ap (λ (l : List ℕ). get_or l 0 0) e)
+
+    go : (r : Option ByteUnit) → unit_named t ≡ r → None ≡ unit_named t
+    go None e = sym e
+    go (Some u) e = absurd (first u (unit_name t u e))
+
+unit_text_lem : (t : List ℕ) (u : ByteUnit) → unit_after t ≡ Some u → t ≡ unit_text u
 unfolding unit_after
 unit_text_lem [] u e = absurd (let z : ◌≡◌ {A = ℕ} 0 1 = cc in omega arith)
 unit_text_lem (b ∷ t) u e = go (eqb b space) refl e
   where
-    go : (q : Bool) → eqb b space ≡ q → cond q (unit_named t) Nothing ≡ Is u → b ∷ t ≡ space ∷ name_of u
+    go : (q : Bool) → eqb b space ≡ q → cond q (unit_named t) None ≡ Some u → b ∷ t ≡ space ∷ name_of u
     go true q h =
         let i : b ≡ space = eqb-true b space q in
         let j : t ≡ name_of u = unit_name t u h in
@@ -62,7 +84,7 @@ unit_text_lem (b ∷ t) u e = go (eqb b space) refl e
     go false q h = absurd (let z : ◌≡◌ {A = ℕ} 0 1 = cc in omega arith)
 
 -- The leading digits are digits.
-leading_digits : (t : List ℕ) → AllDigits (leading t)
+pub leading_digits : (t : List ℕ) → AllDigits (leading t)
 unfolding leading
 leading_digits [] = refl
 leading_digits (b ∷ t) = go (is_digit b) refl (leading_digits t)
@@ -102,9 +124,9 @@ parse_spelled {w} {f} {t} {u} (fraction m h k mark g l) =
     rw (leading_ends w m (f ++ unit_text u) h n, following_ends w m (f ++ unit_text u) h n, k, mark, leading_ends f space (name_of u) g refl, following_ends f space (name_of u) g refl, l, unit_back u)
 
 -- And back.
-with_unit_lem : (v g w f : List ℕ) (u : ByteUnit) (x : UnitFound) → with_unit v g x ≡ amount w f u → (v ≡ w) × (g ≡ f) × (x ≡ Is u)
-with_unit_lem v g w f u (Is y) e = (cc, cc, cc)
-with_unit_lem v g w f u Nothing e = absurd (let z : ◌≡◌ {A = ℕ} 0 1 = cc in omega arith)
+with_unit_lem : (v g w f : List ℕ) (u : ByteUnit) (x : Option ByteUnit) → with_unit v g x ≡ amount w f u → (v ≡ w) × (g ≡ f) × (x ≡ Some u)
+with_unit_lem v g w f u (Some y) e = (cc, cc, cc)
+with_unit_lem v g w f u None e = absurd (let z : ◌≡◌ {A = ℕ} 0 1 = cc in omega arith)
 
 after_spells : (v r w f : List ℕ) (u : ByteUnit) → AllDigits v → whole_digits v ≡ true → after_whole v r ≡ amount w f u → Spells w u f (v ++ r)
 unfolding after_whole

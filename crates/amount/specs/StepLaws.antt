@@ -1,54 +1,62 @@
--- Laws of the definitions in Steps.antt.
-use Rattle.std.specs.Prelude.{◌≡◌, refl, Bool, true, List, [], ℕ, zero, suc, ◌+◌, ◌-◌, ◌*◌, ◌^◌, ◌<◌, ◌≤◌, length, drop, get_or}
-use Rattle.std.proofs.Common.{ap, sym, ◌∙◌, add-zero, zero-add, pow-suc, add-one, arith, le-leb, ne_eqb, lit<}
-use Rattle.std.proofs.Math.Bool.{and-false}
-use Rattle.std.proofs.lemmas.Bool.{lt-leb}
-use Rattle.amount.specs.declared.DigitRun.TheVariants.{Outside}
-use Rattle.amount.specs.Digits.{is_digit, leading, number, number_after}
-use Rattle.amount.specs.DigitLaws.{leading_on, digit_high}
-use Rattle.amount.specs.Steps.{run_of, ended_run}
+-- Laws of runs of digits: the bytes that a text begins with, and the number of the first of them.
+use Rattle.std.specs.Prelude.{◌≡◌, refl, Bool, true, false, cond, List, [], ◌∷◌, ℕ, zero, suc, ◌+◌, ◌-◌, ◌*◌, ◌^◌, ◌<◌, ◌≤◌, length, take, get_or}
+use Rattle.std.proofs.Common.{ap, sym, ◌∙◌, pow-suc, add-one, arith, lit<, take_at}
+use Rattle.std.specs.List.{prefix_len}
+use Rattle.std.proofs.lemmas.List.{take_more}
+use Rattle.amount.specs.Digits.{is_digit, leading, following, number, number_after, AllDigits}
+use Rattle.amount.specs.DigitLaws.{number_append, digit_low, digit_high, leading_following}
 
--- A run that is not too long and has ended.
-pub run_ended : (most count value : ℕ) (d : List ℕ) → length d ≡ count → number d ≡ value → count ≤ most → run_of most d ≡ ended_run count value
-unfolding run_of
-run_ended most zero value d e v h = rw e
-run_ended most (suc n) value d e v h = rw (e, v, le-leb 1 (suc n) (omega arith), le-leb (suc n) most h, ne_eqb (suc n) 0 (λ q. omega arith))
+-- Where every byte is a digit, the first is one, and so is every other.
+first_digit : (b : ℕ) (t : List ℕ) → AllDigits (b ∷ t) → (is_digit b ≡ true) × AllDigits t
+unfolding leading
+first_digit b t h = go (is_digit b) h
+  where
+    go : (q : Bool) → cond q (b ∷ leading t) [] ≡ b ∷ t → (q ≡ true) × (leading t ≡ t)
+    go true e = (refl, cc)
+    go false e = absurd (let z : ◌≡◌ {A = ℕ} 0 1 = cc in omega arith)
 
--- A run that is too long.
-pub run_long : (most : ℕ) (d : List ℕ) → most < length d → run_of most d ≡ Outside
-unfolding run_of
-run_long most d h = rw (lt-leb (length d) most h, and-false)
+pub digit_at : (s : List ℕ) (i : ℕ) → AllDigits s → i < length s → is_digit (get_or s i 0) ≡ true
+unfolding leading
+digit_at [] i h l = absurd (omega arith)
+digit_at (b ∷ t) i h l = let p = first_digit b t h in at i l p.0 (λ j k. digit_at t j p.1 k)
+  where
+    at : (i : ℕ) → i < suc (length t) → is_digit b ≡ true → ((j : ℕ) → j < length t → is_digit (get_or t j 0) ≡ true) → is_digit (get_or (b ∷ t) i 0) ≡ true
+    at zero l q rest = q
+    at (suc j) l q rest = rest j (omega arith)
 
--- The first i bytes of s are digits, of the number v.
+pub digit_floor : (s : List ℕ) (i : ℕ) → AllDigits s → i < length s → 48 ≤ get_or s i 0
+digit_floor s i h l = digit_low _ (digit_at s i h l)
+
+-- v is the number of the first i of these digits.
 pub record Scanned (s : List ℕ) (i v : ℕ) : Type 0 where
   pub below : v < 10 ^ i
-  pub counts : length (leading s) ≡ i + length (leading (drop i s))
-  pub numbers : number (leading s) ≡ number_after v (leading (drop i s))
+  pub value : v ≡ number (take i s)
 
 pub scanned_start : (s : List ℕ) → Scanned s 0 0
-scanned_start s = record { below = lit< tt; counts = sym (zero-add _); numbers = refl }
+unfolding number_after
+scanned_start s = record { below = lit< tt; value = refl }
 
 more_below : (v b p : ℕ) → v < p → b ≤ 57 → v * 10 + (b - 48) < p * 10
 more_below v b p h k = omega arith
 
 -- One digit more.
-pub scanned_on : {d : Bool} {s : List ℕ} {i v : ℕ} → Scanned s i v → i < length s → d ≡ is_digit (get_or s i 0) → d ≡ true
-    → Scanned s (i + 1) (v * 10 + (get_or s i 0 - 48))
+pub scanned_on : (s : List ℕ) (i v : ℕ) → AllDigits s → Scanned s i v → i < length s → Scanned s (i + 1) (v * 10 + (get_or s i 0 - 48))
 unfolding number_after
-scanned_on {d} {s} {i} {v} h l e t =
-    let on = leading_on s i l e t in
+scanned_on s i v a h l =
     record {
-      below = rw (add-one i, pow-suc 10 i) (more_below v (get_or s i 0) (10 ^ i) h.below (digit_high _ (sym e ∙ t)));
-      counts = h.counts ∙ rw on (omega arith);
-      numbers = h.numbers ∙ rw on;
+      below = rw (add-one i, pow-suc 10 i) (more_below v (get_or s i 0) (10 ^ i) h.below (digit_high _ (digit_at s i a l)));
+      value = rw (take_more s i 0 l, number_append 0 (take i s) (get_or s i 0 ∷ []), ← h.value) refl;
     }
 
--- No digit more.
-pub scanned_end : {s : List ℕ} {i v : ℕ} (most : ℕ) → Scanned s i v → leading (drop i s) ≡ [] → i ≤ most → run_of most (leading s) ≡ ended_run i v
-unfolding number_after
-scanned_end {s} {i} {v} most h e l = run_ended most i v (leading s) (h.counts ∙ rw e (add-zero i)) (h.numbers ∙ rw e) l
+-- The digits that a text begins with, by how many there are.
+pub leading_count : (t : List ℕ) → prefix_len is_digit t ≡ length (leading t)
+unfolding leading
+leading_count [] = refl
+leading_count (b ∷ t) = go (is_digit b) (leading_count t)
+  where
+    go : (q : Bool) → prefix_len is_digit t ≡ length (leading t) → cond q (1 + prefix_len is_digit t) 0 ≡ length (cond q (b ∷ leading t) [])
+    go true e = rw e (omega arith)
+    go false e = refl
 
--- A digit more than the most.
-pub scanned_long : {d : Bool} {s : List ℕ} {i v : ℕ} (most : ℕ) → Scanned s i v → i < length s → d ≡ is_digit (get_or s i 0) → d ≡ true → i ≡ most → run_of most (leading s) ≡ Outside
-scanned_long {d} {s} {i} {v} most h l e t q =
-    run_long most (leading s) (omega (arith, h.counts, ap length (leading_on s i l e t)))
+pub leading_taken : (t : List ℕ) → take (length (leading t)) t ≡ leading t
+leading_taken t = ap (λ (l : List ℕ). take (length (leading t)) l) (sym (leading_following t)) ∙ take_at (leading t) (following t) (length (leading t)) refl

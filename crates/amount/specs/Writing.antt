@@ -1,17 +1,13 @@
 -- Which text a cap has, and what writing it leaves in a buffer (01, "Typed amounts"). Assumes nothing.
-use Rattle.std.specs.Prelude.{Bool, false, cond, List, ◌∷◌, ◌++◌, ℕ, ◌/◌, ◌%◌, eqb, ltb, length, drop}
-use Rattle.amount.specs.declared.ByteUnit.{ByteUnit}
-use Rattle.amount.specs.declared.ByteUnit.TheVariants.{B, KiB, MiB, GiB}
+use Rattle.std.specs.Prelude.{Bool, false, cond, List, ◌∷◌, ◌++◌, ℕ, ◌/◌, ◌%◌, eqb, ltb, length, drop, Result, Ok, Err}
+use Rattle.amount.specs.declared.error.AmountError.{AmountError}
+use Rattle.amount.specs.declared.error.AmountError.TheVariants.{Room, TooLarge}
+use Rattle.amount.specs.declared.unit.ByteUnit.{ByteUnit}
+use Rattle.amount.specs.declared.unit.ByteUnit.TheVariants.{B, KiB, MiB, GiB}
 use Rattle.amount.specs.declared.Cap.{Cap}
 use Rattle.amount.specs.declared.Cap.TheVariants.{Unlimited, Bytes}
-use Rattle.amount.specs.declared.Written.{Written}
-use Rattle.amount.specs.declared.Written.TheVariants.{Length, Refused}
 use Rattle.amount.specs.Digits.{decimal}
-use Rattle.amount.specs.Amount.{limit, too_large, space, unlimited_text, size_of, name_of}
-
--- The refusal number of writing into a buffer that is too short: 12 ROOM.
-abbrev pub room : ℕ
-room = 12
+use Rattle.amount.specs.Amount.{error_number, limit, space, unlimited_text, size_of, name_of}
 
 -- The unit divides the count.
 abbrev pub divides : ByteUnit → ℕ → Bool
@@ -40,28 +36,28 @@ above_limit Unlimited = false
 above_limit (Bytes n) = ltb limit n
 
 -- What writing answers for a buffer of that many bytes: "a count above 2^36 is 24, checked before 12".
-unfoldable pub written_of : Cap → ℕ → Written
+unfoldable pub written_of : Cap → ℕ → Result ℕ AmountError
 written_of cap size =
-    cond (above_limit cap) (Refused too_large)
-    (cond (ltb size (length (text_of cap))) (Refused room) (Length (length (text_of cap))))
+    cond (above_limit cap) (Err TooLarge)
+    (cond (ltb size (length (text_of cap))) (Err Room) (Ok (length (text_of cap))))
 
 -- "If an answer is an enum, a definition gives this paper's number and values": 0 and the length written, or the refusal's number and 0.
-abbrev pub written_number : Written → ℕ
-written_number (Length n) = 0
-written_number (Refused r) = r
+abbrev pub written_number : Result ℕ AmountError → ℕ
+written_number (Ok n) = 0
+written_number (Err e) = error_number e
 
-abbrev pub written_value : Written → ℕ
-written_value (Length n) = n
-written_value (Refused r) = 0
+abbrev pub written_value : Result ℕ AmountError → ℕ
+written_value (Ok n) = n
+written_value (Err e) = 0
 
 -- A buffer with a text at its start: "Bytes after the text stay"; as it was where the text does not fit.
 unfoldable pub at_start : List ℕ → List ℕ → List ℕ
 at_start text buf = cond (ltb (length buf) (length text)) buf (text ++ drop (length text) buf)
 
 -- The buffer after an answer: the text at its start and "Bytes after the text stay"; as it was where the answer is a refusal.
-abbrev pub buffer_at : Written → List ℕ → List ℕ → List ℕ
-buffer_at (Length n) text buf = text ++ drop n buf
-buffer_at (Refused r) text buf = buf
+abbrev pub buffer_at : Result ℕ AmountError → List ℕ → List ℕ → List ℕ
+buffer_at (Ok n) text buf = text ++ drop n buf
+buffer_at (Err e) text buf = buf
 
 -- The buffer after writing.
 unfoldable pub buffer_after : Cap → List ℕ → List ℕ

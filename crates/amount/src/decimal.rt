@@ -1,23 +1,20 @@
 // The decimal digits of a number, written into a lent buffer.
-ghost use Rattle.std.specs.Prelude.{◌≡◌, length};
+ghost use Rattle.std.specs.Prelude.{◌≡◌, ◌≤◌, length};
 ghost use Rattle.amount.specs.Digits.{decimal};
 ghost use Rattle.amount.specs.Writing.{at_start};
 
-// How many digits a number has.
+// How many digits a number has: 0 has one, as 1 has.
+#[tactic(auto, using(crate::specs::DecimalLaws::length_by_power))]
 pub(crate) fn digit_count(n: u64) -> usize
-    ensures { result ≡ length (decimal n) }
+    ensures count { result ≡ length (decimal n) }
+    ensures few { result ≤ 20 }
 {
-    let mut count: usize = 1;
-    let mut rest = n;
-    while 10 <= rest {
-        count += 1;
-        rest /= 10;
-    }
-    count
+    n.max(1).ilog10() as usize + 1
 }
 
 // Writes the digits of a number at the start of a buffer where they fit, the last digit first, and
 // gives how many there are.
+#[tactic(auto, using(crate::specs::WriteLaws::start_short, crate::specs::WriteLaws::placing_start, crate::specs::WriteLaws::placing_on))]
 pub fn write_decimal(n: u64, buf: &mut [u8]) -> usize
     ensures count { result ≡ length (decimal n) }
     ensures buffer { buf.new ≡ at_start (decimal n) buf.old }
@@ -26,13 +23,10 @@ pub fn write_decimal(n: u64, buf: &mut [u8]) -> usize
     if buf.len() < count {
         return count;
     }
-    let mut i = count;
     let mut rest = n;
-    while 10 <= rest {
-        i -= 1;
+    for i in (0..count).rev() {
         buf[i] = b'0' + (rest % 10) as u8;
         rest /= 10;
     }
-    buf[0] = b'0' + rest as u8;
     count
 }

@@ -1,61 +1,46 @@
-// Runs of decimal digits as numbers.
-ghost use Rattle.std.specs.Prelude.{◌≡◌, ◌≤◌, ◌^◌};
-ghost use Rattle.amount.specs.Digits.{is_digit, leading};
-ghost use Rattle.amount.specs.Steps.{ended_run, run_of};
+// Runs of decimal digits, and their numbers.
+ghost use Rattle.std.specs.Prelude.{◌≡◌, ◌≤◌, IfErr, IfOk, is_ok, length};
+ghost use Rattle.amount.specs.Amount.{within};
+ghost use Rattle.amount.specs.Digits.{AllDigits, following, leading, number};
 
-use crate::DigitRun;
+use crate::AmountError;
 
-// Whether a byte is one of the digits 0 to 9.
-pub(crate) fn is_digit(b: u8) -> bool
-    ensures { result ≡ is_digit b }
+// How many digits a text begins with.
+fn leading_len(text: &[u8]) -> usize
+    ensures value { result ≡ length (leading text.now) }
+    ensures within { result ≤ length text.now }
 {
-    if b < b'0' {
-        return false;
-    }
-    b <= b'9'
+    text.iter().take_while(|b| b.is_ascii_digit()).count()
 }
 
-// The run that has ended after so many digits.
-fn run_ended(count: usize, value: u64) -> DigitRun
-    ensures { result ≡ ended_run count value }
+// The digits that a text begins with, from 1 to `most` of them, and what follows them.
+#[tactic(auto, using(crate::specs::StepLaws::leading_taken, crate::specs::DigitLaws::drop_leading, crate::specs::Grammar::leading_digits))]
+pub(crate) fn digits(text: &[u8], most: usize) -> Result<(&[u8], &[u8]), AmountError>
+    ensures ok { is_ok result ≡ within most (length (leading text.now)) }
+    ensures err { IfErr result (λ e. e ≡ AmountError.Text) }
+    ensures digits { IfOk result (λ p. p.0.now ≡ leading text.now) }
+    ensures rest { IfOk result (λ p. p.1.now ≡ following text.now) }
+    ensures few { IfOk result (λ p. length p.0.now ≤ most) }
+    ensures all { IfOk result (λ p. AllDigits p.0.now) }
 {
-    if count == 0 {
-        return DigitRun::Outside;
+    let n = leading_len(text);
+    if 1 <= n && n <= most {
+        Ok(text.split_at(n))
+    } else {
+        Err(AmountError::Text)
     }
-    DigitRun::Digits(count, value)
 }
 
-// The digits at the start of a slice, from 1 to `most` of them.
-pub(crate) fn digit_run(s: &[u8], most: usize) -> DigitRun
-    requires { most ≤ 11 }
-    ensures { result ≡ run_of most (leading s.now) }
+// The number that digits write.
+#[tactic(auto, using(crate::specs::StepLaws::scanned_on, crate::specs::StepLaws::digit_floor))]
+pub(crate) fn number(digits: &[u8]) -> u64
+    requires few { length digits.now ≤ 11 }
+    requires all { AllDigits digits.now }
+    ensures { result ≡ number digits.now }
 {
-    let mut i: usize = 0;
-    let mut value: u64 = 0;
-    while i < s.len() {
-        let b = s[i];
-        if !is_digit(b) {
-            return run_ended(i, value);
-        }
-        if i == most {
-            return DigitRun::Outside;
-        }
-        value = value * 10 + (b as u64 - 48);
-        i += 1;
+    let mut n: u64 = 0;
+    for digit in digits {
+        n = n * 10 + u64::from(digit - b'0');
     }
-    run_ended(i, value)
-}
-
-// Ten to a power.
-pub(crate) fn ten_to(places: usize) -> u64
-    requires { places ≤ 9 }
-    ensures { result ≡ 10 ^ places }
-{
-    let mut i: usize = 0;
-    let mut power: u64 = 1;
-    while i < places {
-        power *= 10;
-        i += 1;
-    }
-    power
+    n
 }

@@ -1,37 +1,63 @@
 // The four units: their names and their sizes.
-ghost use Rattle.std.specs.Prelude.{◌≡◌};
-ghost use Rattle.amount.specs.Amount.{size_of, unit_after};
+ghost use Rattle.std.specs.Prelude.{◌≡◌, ◌∷◌};
+ghost use Rattle.amount.specs.Amount.{name_of, size_of, space, unit_after, unit_named};
 
-use crate::{ByteUnit, UnitFound};
-use lists::same_bytes;
-
-// The bytes in one of a unit.
-pub(crate) fn size(unit: ByteUnit) -> u64
-    ensures { result ≡ size_of unit }
-{
-    match unit {
-        ByteUnit::B => 1,
-        ByteUnit::KiB => 1_024,
-        ByteUnit::MiB => 1_048_576,
-        ByteUnit::GiB => 1_073_741_824,
-    }
+// The units of a typed amount.
+#[derive(Clone, Copy, Debug, PartialEq, Eq)]
+pub enum ByteUnit {
+    B,
+    KiB,
+    MiB,
+    GiB,
 }
 
-// One space, then the unit.
-pub(crate) fn unit_after(rest: &[u8]) -> UnitFound
-    ensures { result ≡ unit_after rest.now }
-{
-    if same_bytes(rest, b" B") {
-        return UnitFound::Is(ByteUnit::B);
+impl ByteUnit {
+    // The bytes in one of the unit.
+    pub(crate) fn size(self) -> u64
+        ensures { result ≡ size_of self }
+    {
+        match self {
+            ByteUnit::B => 1,
+            ByteUnit::KiB => 1_024,
+            ByteUnit::MiB => 1_048_576,
+            ByteUnit::GiB => 1_073_741_824,
+        }
     }
-    if same_bytes(rest, b" KiB") {
-        return UnitFound::Is(ByteUnit::KiB);
+
+    // What stands after a number: a space and the unit's name.
+    pub(crate) fn ending(self) -> &'static [u8]
+        ensures { result.now ≡ space ∷ name_of self }
+    {
+        match self {
+            ByteUnit::B => b" B",
+            ByteUnit::KiB => b" KiB",
+            ByteUnit::MiB => b" MiB",
+            ByteUnit::GiB => b" GiB",
+        }
     }
-    if same_bytes(rest, b" MiB") {
-        return UnitFound::Is(ByteUnit::MiB);
+
+    // The unit that has this name.
+    #[tactic(auto, using(crate::specs::Grammar::no_name, crate::specs::Grammar::no_letter), unfolding(crate::specs::Amount::unit_named, lists::specs::Bytes::same_bytes))]
+    fn named(name: &[u8]) -> Option<ByteUnit>
+        ensures { result ≡ unit_named name.now }
+    {
+        match name {
+            b"B" => Some(ByteUnit::B),
+            b"KiB" => Some(ByteUnit::KiB),
+            b"MiB" => Some(ByteUnit::MiB),
+            b"GiB" => Some(ByteUnit::GiB),
+            _ => None,
+        }
     }
-    if same_bytes(rest, b" GiB") {
-        return UnitFound::Is(ByteUnit::GiB);
+
+    // The unit that stands after a number: one space, then its name.
+    #[tactic(auto, unfolding(crate::specs::Amount::unit_after))]
+    pub(crate) fn after(rest: &[u8]) -> Option<ByteUnit>
+        ensures { result ≡ unit_after rest.now }
+    {
+        match rest {
+            [b' ', name @ ..] => ByteUnit::named(name),
+            _ => None,
+        }
     }
-    UnitFound::Nothing
 }

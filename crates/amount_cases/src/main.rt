@@ -4,58 +4,51 @@
 // printable, then the answer (0 or the refusal's number) and the value.
 #![tactic(auto)]
 
-use amount::{Cap, ReadAmount, Written};
+use amount::Cap;
 use std::io;
 use std::io::{BufWriter, Read, Write};
 
-// The counts that are written, and the bytes that are lent for each.
-const COUNTS: [u64; 23] = [
-    0,
-    1,
-    1_023,
-    1_024,
-    1_025,
-    1_536,
-    1_048_576,
-    1_049_600,
-    1_073_741_824,
-    3_221_225_472,
-    67_646_783_488,
-    68_719_476_735,
-    68_719_476_735,
-    68_719_476_735,
-    68_719_476_736,
-    68_719_476_736,
-    68_719_476_736,
-    68_719_476_737,
-    68_719_476_737,
-    18_446_744_073_709_551_615,
-    0,
-    0,
-    0,
-];
-
-const SIZES: [usize; 23] = [
-    20, 20, 20, 20, 20, 20, 20, 20, 20, 20, 20, 20, 13, 12, 20, 6, 5, 20, 0, 20, 3, 2, 0,
+// The counts that are written, each with the bytes that are lent for it.
+const WRITTEN: [(u64, usize); 23] = [
+    (0, 20),
+    (1, 20),
+    (1_023, 20),
+    (1_024, 20),
+    (1_025, 20),
+    (1_536, 20),
+    (1_048_576, 20),
+    (1_049_600, 20),
+    (1_073_741_824, 20),
+    (3_221_225_472, 20),
+    (67_646_783_488, 20),
+    (68_719_476_735, 20),
+    (68_719_476_735, 13),
+    (68_719_476_735, 12),
+    (68_719_476_736, 20),
+    (68_719_476_736, 6),
+    (68_719_476_736, 5),
+    (68_719_476_737, 20),
+    (68_719_476_737, 0),
+    (18_446_744_073_709_551_615, 20),
+    (0, 3),
+    (0, 2),
+    (0, 0),
 ];
 
 // A byte as it is shown.
 fn shown(b: u8) -> u8 {
-    if b < 32 {
-        return 63;
+    if b == b' ' || b.is_ascii_graphic() {
+        b
+    } else {
+        b'?'
     }
-    if 126 < b {
-        return 63;
-    }
-    b
 }
 
 // Prints the bytes of a text in brackets.
 fn show(out: &mut impl Write, text: &[u8]) -> io::Result<()> {
     out.write_all(b"[")?;
     for b in text {
-        let one = [shown(*b)];
-        out.write_all(&one)?;
+        out.write_all(&[shown(*b)])?;
     }
     out.write_all(b"] ")
 }
@@ -69,21 +62,17 @@ fn answer(out: &mut impl Write, number: u32, value: u64) -> io::Result<()> {
 fn reading(out: &mut impl Write, text: &[u8]) -> io::Result<()> {
     show(out, text)?;
     match amount::read_amount(text) {
-        ReadAmount::Read(cap) => match cap {
-            Cap::Unlimited => out.write_all(b"0 unlimited\n"),
-            Cap::Bytes(n) => answer(out, 0, n),
-        },
-        ReadAmount::Refused(number) => answer(out, number, 0),
+        Ok(Cap::Unlimited) => out.write_all(b"0 unlimited\n"),
+        Ok(Cap::Bytes(n)) => answer(out, 0, n),
+        Err(error) => answer(out, error.number(), 0),
     }
 }
 
 // Reads each line of a text, without its newline.
 fn lines(out: &mut impl Write, text: &[u8]) -> io::Result<()> {
-    let mut start: usize = 0;
-    for (i, b) in text.iter().enumerate() {
-        if *b == 10 {
-            reading(out, &text[start..i])?;
-            start = i + 1;
+    for line in text.split_inclusive(|b| *b == b'\n') {
+        if let Some(line) = line.strip_suffix(b"\n") {
+            reading(out, line)?;
         }
     }
     Ok(())
@@ -98,15 +87,15 @@ fn writing(out: &mut impl Write, cap: Cap, size: usize) -> io::Result<()> {
     let written = amount::write_amount(cap, &mut buf[..size]);
     show(out, &buf)?;
     match written {
-        Written::Length(n) => answer(out, 0, n as u64),
-        Written::Refused(number) => answer(out, number, 0),
+        Ok(n) => answer(out, 0, n as u64),
+        Err(error) => answer(out, error.number(), 0),
     }
 }
 
 // Writes each count of the table.
 fn counts(out: &mut impl Write) -> io::Result<()> {
-    for i in 0..23 {
-        writing(out, Cap::Bytes(COUNTS[i]), SIZES[i])?;
+    for (count, size) in WRITTEN {
+        writing(out, Cap::Bytes(count), size)?;
     }
     Ok(())
 }

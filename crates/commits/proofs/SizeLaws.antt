@@ -9,6 +9,7 @@ use mir.Syntax.{w64}
 use borrow.Author.Rules.{rules}
 use lib.Dec.{ltb}
 use lib.ListN.{take, get_or}
+use Rattle.std.specs.Prelude.{Option, Some, None}
 use Rattle.lists.specs.Lists.{all_of, total}
 use Rattle.lists.specs.RowLaws.{rows_length}
 use Rattle.lists.specs.LoopLaws.{SumLoop, sum_start, sum_all}
@@ -17,8 +18,6 @@ use Rattle.rules.specs.declared.Put.{Put}
 use Rattle.rules.specs.Sound.{shards_fit}
 use Rattle.rules.specs.Rent.{rent_for}
 use Rattle.rules.specs.Commit.{put_size}
-use Rattle.rents.specs.declared.Rent.{Rent}
-use Rattle.rents.specs.declared.Rent.TheVariants.{Coins, PastLimits}
 use Rattle.rents.specs.Within.{rent_within}
 use Rattle.rents.specs.WithinLaws.{rent_within_lem}
 use Rattle.surveys.specs.RowLimits.{put_within}
@@ -40,14 +39,14 @@ module _ (puts : List Put) (count : ℕ) (few : count ≤ 8) (fit : all_of put_w
 pub ruleset stages = (staged_adds, staged_fits, staged_most, sum_all, sum_start, part_size, rows_length, rules)
 
 -- the rent of so many raw bytes: f is what was worked out
-module _ (rate : ℕ) (v : Volume) (raw : ℕ) (f : Rent) (e : f ≡ rent_within rate v.k v.m raw) (shards : shards_fit v.k v.m ≡ true)
+module _ (rate : ℕ) (v : Volume) (raw : ℕ) (f : Option ℕ) (e : f ≡ rent_within rate v.k v.m raw) (shards : shards_fit v.k v.m ≡ true)
     (small : raw ≤ 2 ^ 43) where
-  one_rent : f ≡ Coins (rent_for rate v (raw ∷ []))
+  one_rent : f ≡ Some (rent_for rate v (raw ∷ []))
   unfolding total
   one_rent = e ∙ rent_within_lem rate v (raw ∷ []) raw (omega arith) shards small
 
-  pub rent_below : (coins : ℕ) → f ≡ Coins coins → ltb v.balance coins ≡ ltb v.balance (rent_for rate v (raw ∷ []))
+  pub rent_below : (coins : ℕ) → f ≡ Some coins → ltb v.balance coins ≡ ltb v.balance (rent_for rate v (raw ∷ []))
   rent_below coins q = let z : coins ≡ rent_for rate v (raw ∷ []) = cc one_rent in rw z
 
-  pub rent_past : f ≡ PastLimits → true ≡ ltb v.balance (rent_for rate v (raw ∷ []))
+  pub rent_past : f ≡ None → true ≡ ltb v.balance (rent_for rate v (raw ∷ []))
   rent_past q = let z : ◌≡◌ {A = ℕ} 0 1 = cc one_rent in absurd (omega arith)

@@ -67,11 +67,7 @@ pub record Ready (relays : List Relay) (s : Session) (v : Volume) : Type 0 where
   pub puts : all_of put_within (staged s) ≡ true
   pub rooms : all_of relay_within relays ≡ true
 
--- the placements and the relays after them, which are known where the number of the checks is 0
-pub record PlacedIf (number clock : ℕ) (relays : List Relay) (s : Session) (v : Volume) (places : List Placement) (rs : List Relay) : Type 0 where
-  pub placing : number ≡ 0 → placing_of clock relays s v ≡ placed places rs
-
--- the row of a session's volume, and the placing, which are known where the number of the checks is 0
-pub record RowsIf (number clock : ℕ) (volumes : List Volume) (relays : List Relay) (s : Session) (i : ℕ) (places : List Placement) (rs : List Relay) : Type 0 where
-  pub volume : number ≡ 0 → find (is_volume s.volume) volumes ≡ hit i (get_or volumes i blank_volume)
-  pub placing : number ≡ 0 → placing_of clock relays s (get_or volumes i blank_volume) ≡ placed places rs
+-- what is known where the checks pass: i is the row of the session's volume, and the puts are placed there, with these relays after them
+pub record RowsFound (clock : ℕ) (volumes : List Volume) (relays : List Relay) (s : Session) (i : ℕ) (places : List Placement) (rs : List Relay) : Type 0 where
+  pub volume : find (is_volume s.volume) volumes ≡ hit i (get_or volumes i blank_volume)
+  pub placing : placing_of clock relays s (get_or volumes i blank_volume) ≡ placed places rs

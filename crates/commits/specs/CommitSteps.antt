@@ -37,7 +37,7 @@ use Rattle.surveys.specs.Survey.{kept_bytes, Surveyed}
 use Rattle.commits.specs.Stored.{StoredAs, StoredBy}
 use Rattle.rows.specs.Links.{row_if}
 use Rattle.first_checks.specs.Early.{token_fault}
-use Rattle.commits.specs.Checks.{limits_fault, or_else, place_fault, placing_of, rows_fault, fault_at, fault_by, rows_number, RowsIf}
+use Rattle.commits.specs.Checks.{limits_fault, or_else, place_fault, placing_of, rows_fault, fault_at, fault_by, rows_number, RowsFound}
 use Rattle.commits.specs.CommitSums.{size_passes, rent_passes, staged_small}
 
 -- the answer by a number: the refusal with it, or the rest where it is 0
@@ -180,13 +180,13 @@ module _ (clock rate : ℕ) (volumes : List Volume) (ks : List Token) (relays : 
       go true q = refl
       go false q = let m : number ≡ BAD = e ∙ rw q in absurd (omega (arith, m, z))
 
-  module _ (i : ℕ) (places : List Placement) (rs : List Relay) (r : RowsIf number clock volumes relays s i places rs) where
+  module _ (i : ℕ) (places : List Placement) (rs : List Relay) (r : RowsFound clock volumes relays s i places rs) where
     abbrev v : Volume
     v = get_or volumes i blank_volume
 
     passed_at : fault_at clock rate ks relays s kept rows v (row_if there k) ≡ 0
     unfolding rows_number fault_by
-    passed_at = sym (rw (all_parts, r.volume z) at e) ∙ z
+    passed_at = sym (rw (all_parts, r.volume) at e) ∙ z
 
     pub passed_there : there ≡ true
     unfolding fault_at
@@ -290,7 +290,7 @@ module _ (t : Tables) (s : Session) (ms : List Bool) (within : Bool) (kept rows 
         go false q = let m : number ≡ BAD = e ∙ rw q in rw (same_parts, q, m)
 
   module _ (z : number ≡ 0) (i : ℕ) (places : List Placement) (rs : List Relay)
-      (r : RowsIf number t.clock t.volumes t.relays s i (take s.count places) rs) where
+      (r : RowsFound t.clock t.volumes t.relays s i (take s.count places) rs) where
     abbrev row : Volume
     row = get_or t.volumes i blank_volume
 
@@ -300,7 +300,7 @@ module _ (t : Tables) (s : Session) (ms : List Bool) (within : Bool) (kept rows 
         let ok = all_parts t.clock t.rate t.volumes (family t.tokens k) t.relays s there k kept rows number e z in
         let yes = passed_there t.clock t.rate t.volumes (family t.tokens k) t.relays s there k kept rows number e z i (take s.count places) rs r in
         let none = passed_rows t.clock t.rate t.volumes (family t.tokens k) t.relays s there k kept rows number e z i (take s.count places) rs r in
-        rw (same_parts, ok, r.volume z, f, yes) (at_rows ok i row (r.volume z) ∙ rw (none, r.placing z))
+        rw (same_parts, ok, r.volume, f, yes) (at_rows ok i row r.volume ∙ rw (none, r.placing))
 
     -- and so it answers 0
     pub parts_told : (commit_within t s).answer.number ≡ 0
@@ -322,7 +322,7 @@ module _ (t : Tables) (s : Session) (ms : List Bool) (within : Bool) (kept rows 
     pub parts_stored : (o : CommitOutcome) → i < 8 → j < 32
         → StoredBy t s (record { volume = i; token = j; places = places; relays = rs; marks = ms }) o → on_commit t o ≡ commit_within t s
     parts_stored o h u g =
-        let m : ms ≡ map (is_replaced row.no (staged s)) t.entries = rw (number_found t.volumes s.volume i row (r.volume z)) w.replaced in
+        let m : ms ≡ map (is_replaced row.no (staged s)) t.entries = rw (number_found t.volumes s.volume i row r.volume) w.replaced in
         let storable =
         passed_store t.clock t.rate t.volumes (family t.tokens k) t.relays s there k kept rows number e z i (take s.count places) rs r t.tokens h j u tokens_in_lem in
         stores_answer t s ms i row k (take s.count places) rs o m (rw token_row_lem at (g.stored storable)) ∙ sym passes_checked ∙ sym runs

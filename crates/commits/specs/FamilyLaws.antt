@@ -1,8 +1,6 @@
 -- The walk up a chain of parents that keeps each token on its way, and its loop. Assumes nothing.
-use Rattle.std.specs.Prelude.{◌≡◌, refl, List, [], ◌∷◌, ◌++◌, map, ℕ, suc, ◌+◌, ◌-◌, ◌<◌, ◌≤◌, length, take, get_or, set, replicate}
+use Rattle.std.specs.Prelude.{◌≡◌, refl, List, [], ◌∷◌, ◌++◌, map, ℕ, suc, ◌+◌, ◌-◌, ◌<◌, ◌≤◌, length, take, get_or, set, replicate, Option, Some, None}
 use Rattle.std.proofs.Common.{sym, ◌∙◌, append_assoc, append-nil, add-one, arith, length-set, take-suc-set}
-use Rattle.lists.specs.declared.Found.{Found}
-use Rattle.lists.specs.declared.Found.TheVariants.{At, Nothing}
 use Rattle.lists.specs.Lists.{first_at}
 use Rattle.lists.specs.SearchLaws.{first_row_lem, first_miss}
 use Rattle.lists.specs.RowLaws.{first_map}
@@ -37,16 +35,16 @@ module _ (ns : List ℕ) (ts : List Token) (k : Token) where
         sym (rw (q, up_end ts p) (append-nil (take n kept))) ∙ h.rest
 
     -- f is what the search of the numbers said
-    module _ (f : Found) (e : f ≡ first_at (table.numbered p) 0 ns) where
+    module _ (f : Option ℕ) (e : f ≡ first_at (table.numbered p) 0 ns) where
       in_rows : f ≡ first_at (table.is_token (numbered p)) 0 ts
       in_rows = e ∙ rw h.listed (first_map token_number ts (table.numbered p) (table.is_token (numbered p)) (λ x. refl) 0)
 
-      pub family_stop : f ≡ Nothing → take n kept ≡ family ts k
+      pub family_stop : f ≡ None → take n kept ≡ family ts k
       family_stop w =
           sym (rw (up_none ts (8 - n) p (first_miss (table.is_token (numbered p)) ts (sym in_rows ∙ w))) (append-nil (take n kept))) ∙ h.rest
 
       -- x is the row that was found, and m its parent
-      pub family_next : (i m : ℕ) (d x : Token) → n < 8 → f ≡ At i → x ≡ get_or ts i d → m ≡ x.parent.0 → FamilyLoop ns ts k (set kept n x) (n + 1) m
+      pub family_next : (i m : ℕ) (d x : Token) → n < 8 → f ≡ Some i → x ≡ get_or ts i d → m ≡ x.parent.0 → FamilyLoop ns ts k (set kept n x) (n + 1) m
       family_next i m d x l w y g =
           let q : 8 - n ≡ suc (8 - (n + 1)) = omega arith in
           let u = up_step ts (8 - (n + 1)) p i x (first_row_lem (table.is_token (numbered p)) ts i (sym in_rows ∙ w) d ∙ rw y) in
@@ -60,7 +58,7 @@ module _ (ns : List ℕ) (ts : List Token) (k : Token) where
             rest = rw (g, z, append_assoc) r;
           }
 
-      pub family_step : (i m : ℕ) (d : Token) → n < 8 → f ≡ At i → m ≡ (get_or ts i d).parent.0 → FamilyLoop ns ts k (set kept n (get_or ts i d)) (n + 1) m
+      pub family_step : (i m : ℕ) (d : Token) → n < 8 → f ≡ Some i → m ≡ (get_or ts i d).parent.0 → FamilyLoop ns ts k (set kept n (get_or ts i d)) (n + 1) m
       family_step i m d l w g = family_next i m d (get_or ts i d) l w refl g
 
 pub ruleset families = (family_step, family_stop, family_end, family_few, family_room, family_start, in_table)

@@ -1,5 +1,5 @@
 -- Parts of the rule of commit under names of their own, as the code has them. Assumes nothing.
-use Rattle.std.specs.Prelude.{◌≡◌, Bool, true, false, cond, List, map, ℕ, ◌+◌, take, get_or, set}
+use Rattle.std.specs.Prelude.{◌≡◌, Bool, true, false, List, map, ℕ, ◌+◌, take, get_or, set, Option, Some, None}
 use Rattle.rules.specs.declared.Placement.{Placement}
 use Rattle.rules.specs.declared.Volume.{Volume}
 use Rattle.rules.specs.declared.Entry.{Entry}
@@ -19,12 +19,14 @@ use Rattle.rows.specs.Blank.{blank_volume, blank_token}
 use Rattle.entries.specs.Marks.{marked}
 use Rattle.commits.specs.declared.CommitOutcome.{CommitOutcome}
 use Rattle.commits.specs.declared.Plan.{Plan}
+use Rattle.commits.specs.declared.placings.Places.{Places}
 use Rattle.commits.specs.Parts.{on_commit}
 use Rattle.surveys.specs.RowLimits.{can_store}
 
--- what placing the puts came to: the placements, one for each put, and the relay table after them
-abbrev pub placed_by : Bool → List Placement → List Relay → Placed
-placed_by b places rs = cond b (placed places rs) no_place
+-- what placing n puts came to: the placements, one for each put, and the relay table after them
+abbrev pub placed_by : ℕ → Option Places → Placed
+placed_by n None = no_place
+placed_by n (Some x) = placed (take n x.places) x.rows
 
 -- what an accepted commit leaves, part by part, where the marked entries are replaced, v is the volume at row i, k the token, and `rs` are the relays
 -- after the placing

@@ -18,10 +18,8 @@ pub fn numbers_of(f: Family) -> [u32; 8]
     let tokens = f.tokens;
     let count = put_count(f.len);
     let mut numbers = [0u32; 8];
-    let mut j: usize = 0;
-    while j < count {
+    for j in 0..count {
         numbers[j] = tokens[j].no.0;
-        j += 1;
     }
     numbers
 }
@@ -30,14 +28,7 @@ pub fn numbers_of(f: Family) -> [u32; 8]
 pub fn is_member(numbers: &[u32], n: u32) -> bool
     ensures { result ≡ any_of (numbered n) numbers.now }
 {
-    let mut j: usize = 0;
-    while j < numbers.len() {
-        if is_number(n, numbers[j]) {
-            return true;
-        }
-        j += 1;
-    }
-    false
+    numbers.iter().any(|x| is_number(n, *x))
 }
 
 fn charge_row(row: Token, bytes: u64) -> Token
@@ -57,15 +48,13 @@ pub(crate) fn charge(rows: [Token; 32], k: Token, bytes: u64) -> [Token; 32]
     let f = family_of(rows, k);
     let numbers = numbers_of(f);
     let mut out = rows;
-    let mut i: usize = 0;
-    while i < 32 {
+    for i in 0..32 {
         if rows[i].no.0 != 0 {
             if is_member(&numbers, rows[i].no.0) {
                 let row = rows[i];
                 out[i] = charge_row(row, bytes);
             }
         }
-        i += 1;
     }
     out
 }

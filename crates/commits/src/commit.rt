@@ -12,19 +12,17 @@ ghost use Rattle.surveys.specs.RowLimits.{token_within, put_within};
 ghost use Rattle.surveys.specs.Survey.{Surveyed};
 ghost use Rattle.commits.specs.Within.{commit_within};
 ghost use Rattle.commits.specs.Stored.{StoredAs, StoredBy};
-ghost use Rattle.commits.specs.Verdicts.{no_plan, JudgedIn};
+ghost use Rattle.commits.specs.Verdicts.{JudgedIn};
 
 use super::answers::refuse;
 use super::charge::charge;
 use super::checks::check_rows;
 use super::family::{Family, family_of};
 use super::sizes::staged_bytes;
-use super::{CommitOutcome, Plan, Verdict};
+use super::{CommitOutcome, Plan};
 use entries::{any_mark, give_back, store_all};
-use lists::Found;
-use rows::find_token;
-use rules::numbers::{BAD, SESSION};
-use rules::{Entry, Relay, Session, Tables, Token, TokenNo, Volume};
+use rows::find_row;
+use rules::{Entry, Refusal, Relay, Session, Tables, Token, TokenNo, Volume};
 use surveys::{Findings, can_store, others_within, survey};
 
 // The storing, where it can be done. Without puts the entries are not handed on, and where nothing is replaced no room is given back.
@@ -89,7 +87,7 @@ pub fn store_commit(t: Tables, s: Session, plan: Plan) -> CommitOutcome
     let volumes = t.volumes;
     let tokens = t.tokens;
     if !can_store(volumes, tokens, s, plan.volume, plan.token) {
-        return refuse(t, s, BAD);
+        return refuse(t, s, Refusal::Bad);
     }
     let entries = t.entries;
     store(volumes, entries, tokens, s, plan)
@@ -106,7 +104,7 @@ pub(crate) struct TokenRow {
 fn token_row(tokens: [Token; 32], n: TokenNo) -> TokenRow
     ensures { (find (is_token n) tokens ≡ cond result.there (hit result.at result.row) miss) × (result.at < 32) }
 {
-    let Found::At(j) = find_token(tokens, n) else {
+    let Some(j) = find_row(&tokens, n) else {
         let none = tokens[0];
         return TokenRow {
             there: false,
@@ -122,27 +120,8 @@ fn token_row(tokens: [Token; 32], n: TokenNo) -> TokenRow
     }
 }
 
-// The verdict with this number and no plan: for a refusal, so for any number but 0.
-pub fn refusing(number: u32) -> Verdict
-    ensures { result ≡ record { number = number; plan = no_plan } }
-{
-    let place = rules::fresh_placement();
-    let places = [place; 8];
-    let relay = rules::fresh_relay();
-    let relays = [relay; 32];
-    let marks = [false; 64];
-    let plan = Plan {
-        volume: 0,
-        token: 0,
-        places,
-        relays,
-        marks,
-    };
-    Verdict { number, plan }
-}
-
 // The checks of a commit, by what was read of the tables: `e` of the entries; `within`, whether the tokens are within their limits; the token's row, with
-// its place, or that it has none; and the token and its ancestors. The number of the refusal, or 0 with the plan to store it by.
+// its place, or that it has none; and the token and its ancestors. The refusal, or the plan to store it by.
 pub fn check_given(
     clock: u64,
     rate: u16,
@@ -155,40 +134,35 @@ pub fn check_given(
     at: usize,
     k: Token,
     f: Family,
-) -> Verdict
+) -> Result<Plan, Refusal>
     ensures { (entries : List Entry) (tokens : List Token) → Surveyed s.volume (take s.count s.puts) entries e.marks e.within e.kept e.rows → within ≡ all_of token_within tokens → find (is_token s.token) tokens ≡ cond there (hit at k) miss → at < 32 → take f.len f.tokens ≡ family tokens k → f.len ≤ 8 → JudgedIn clock rate volumes entries tokens relays s result }
 {
     if s.token.0 == 0 {
-        return refusing(SESSION);
+        return Err(Refusal::Session);
     }
     if !e.within {
-        return refusing(BAD);
+        return Err(Refusal::Bad);
     }
     if !within {
-        return refusing(BAD);
+        return Err(Refusal::Bad);
     }
     if 8 < f.len {
-        return refusing(BAD);
+        return Err(Refusal::Bad);
     }
-    let c = check_rows(clock, rate, volumes, f, relays, s, there, k, e.kept, e.rows);
-    if c.number != 0 {
-        return refusing(c.number);
-    }
-    let p = c.p;
-    let places = p.places;
-    let loaded = p.rows;
+    let c = check_rows(clock, rate, volumes, f, relays, s, there, k, e.kept, e.rows)?;
+    let places = c.p.places;
+    let relays = c.p.rows;
     let marks = e.marks;
-    let plan = Plan {
+    Ok(Plan {
         volume: c.row,
         token: at,
         places,
-        relays: loaded,
+        relays,
         marks,
-    };
-    Verdict { number: 0, plan }
+    })
 }
 
-// The checks of a commit, over the parts of the tables that they read: the number of the refusal, or 0 with the plan to store it by. No table
+// The checks of a commit, over the parts of the tables that they read: the refusal, or the plan to store it by. No table
 // changes, so a caller that asks first hands the tables to the storing only for a commit that is not refused.
 pub fn check_commit(
     clock: u64,
@@ -198,19 +172,15 @@ pub fn check_commit(
     tokens: [Token; 32],
     relays: [Relay; 32],
     s: Session,
-) -> Verdict
+) -> Result<Plan, Refusal>
     ensures { JudgedIn clock rate volumes entries tokens relays s result }
 {
-    let puts = s.puts;
-    let n = s.volume;
-    let e = survey(entries, n, puts, s.count);
+    let e = survey(entries, s.volume, s.puts, s.count);
     let within = others_within(true, tokens);
-    let no = s.token;
-    let x = token_row(tokens, no);
-    let k = x.row;
-    let f = family_of(tokens, k);
+    let x = token_row(tokens, s.token);
+    let f = family_of(tokens, x.row);
     check_given(
-        clock, rate, volumes, relays, s, e, within, x.there, x.at, k, f,
+        clock, rate, volumes, relays, s, e, within, x.there, x.at, x.row, f,
     )
 }
 
@@ -218,14 +188,8 @@ pub fn check_commit(
 pub fn commit_on(t: Tables, s: Session) -> CommitOutcome
     ensures { on_commit t result ≡ commit_within t s }
 {
-    let volumes = t.volumes;
-    let entries = t.entries;
-    let tokens = t.tokens;
-    let relays = t.relays;
-    let x = check_commit(t.clock, t.rate, volumes, entries, tokens, relays, s);
-    if x.number != 0 {
-        return refuse(t, s, x.number);
+    match check_commit(t.clock, t.rate, t.volumes, t.entries, t.tokens, t.relays, s) {
+        Err(why) => refuse(t, s, why),
+        Ok(plan) => store_commit(t, s, plan),
     }
-    let plan = x.plan;
-    store_commit(t, s, plan)
 }

@@ -4,8 +4,7 @@ ghost use Rattle.lists.specs.Lists.{any_of};
 ghost use Rattle.rules.specs.Scope.{family, passes_cap, passes_quota};
 
 use amount::Cap;
-use lists::Found;
-use rows::{find_number, passes, token_numbers, wide};
+use rows::{find_number, passes, token_numbers};
 use rules::Token;
 
 // A token and its ancestors: the first `len`, nearest first.
@@ -19,17 +18,17 @@ pub struct Family {
 pub fn family_of(rows: [Token; 32], k: Token) -> Family
     ensures { (take result.len result.tokens ≡ family rows k) × (result.len ≤ 8) }
 {
-    let numbers = token_numbers(rows);
+    let numbers = token_numbers(&rows);
     let mut tokens = [k; 8];
     let mut n: usize = 1;
-    let mut parent = wide(k.parent.0);
+    let mut parent = u64::from(k.parent.0);
     while n < 8 {
-        let Found::At(i) = find_number(&numbers, parent) else {
+        let Some(i) = find_number(&numbers, parent) else {
             return Family { tokens, len: n };
         };
         let x = rows[i];
         tokens[n] = x;
-        parent = wide(x.parent.0);
+        parent = u64::from(x.parent.0);
         n += 1;
     }
     Family { tokens, len: n }
@@ -64,13 +63,5 @@ pub(crate) fn passes_quotas(f: Family, bytes: u64) -> bool
 {
     let tokens = f.tokens;
     let n = f.len;
-    let mut i: usize = 0;
-    while i < n {
-        let k = tokens[i];
-        if passes_quota(k, bytes) {
-            return true;
-        }
-        i += 1;
-    }
-    false
+    tokens[..n].iter().any(|k| passes_quota(*k, bytes))
 }

@@ -12,7 +12,7 @@ mod placings;
 mod sizes;
 
 pub use charge::{is_member, numbers_of};
-pub use commit::{check_commit, check_given, commit_on, refusing, store_commit};
+pub use commit::{check_commit, check_given, commit_on, store_commit};
 pub use family::{Family, family_of};
 use rules::{Answer, Entry, Placement, Relay, Session, Token, Volume};
 
@@ -36,11 +36,4 @@ pub struct Plan {
     pub places: [Placement; 8],
     pub relays: [Relay; 32],
     pub marks: [bool; 64],
-}
-
-// What the checks of a commit give: the number of the refusal, or 0 with the plan to store it by.
-#[derive(Clone, Copy)]
-pub struct Verdict {
-    pub number: u32,
-    pub plan: Plan,
 }

@@ -6,7 +6,7 @@ ghost use Rattle.rules.specs.Sound.{shards_fit};
 ghost use Rattle.rules.specs.Commit.{staged_bytes};
 ghost use Rattle.surveys.specs.RowLimits.{put_within};
 
-use rents::{Rent, rent_of};
+use rents::rent_of;
 use rules::{Put, Volume};
 
 // The sizes of the first `count` puts.
@@ -15,11 +15,9 @@ pub(crate) fn staged_bytes(puts: [Put; 8], count: usize) -> u64
     ensures { (result ≡ staged_bytes (take count puts)) × (result ≤ 8 * 2 ^ 36) }
 {
     let mut sum: u64 = 0;
-    let mut i: usize = 0;
-    while i < count {
+    for i in 0..count {
         let p = puts[i];
         sum += p.size;
-        i += 1;
     }
     sum
 }
@@ -30,7 +28,7 @@ pub(crate) fn below_rent(rate: u16, v: Volume, raw: u64) -> bool
     ensures { result ≡ ltb v.balance (rent_for rate v (raw ∷ [])) }
 {
     match rent_of(rate, v.k, v.m, raw) {
-        Rent::Coins(rent) => v.balance < rent,
-        Rent::PastLimits => true,
+        Some(rent) => v.balance < rent,
+        None => true,
     }
 }

@@ -31,7 +31,6 @@ use Rattle.epochs.specs.WithinLaws.{advance_sound}
 
 -- a row of a table whose rows all pass, or what stands for a row past its end
 all_get_d : {A : Type 0} (p : A → Bool) (l : List A) (i : ℕ) (d : A) → all_of p l ≡ true → p d ≡ true → p (get_or l i d) ≡ true
-unfolding all_of
 all_get_d p [] i d e f = f
 all_get_d p (x ∷ xs) zero d e f = and_left (p x) (all_of p xs) e
 all_get_d p (x ∷ xs) (suc i) d e f = all_get_d p xs i d (and_right (p x) (all_of p xs) e) f

@@ -14,8 +14,7 @@ use parts::{
     answered, refuse, slot_of, with_advance, with_commit, with_delete, with_relays, with_remove,
     with_session, with_tokens, with_volumes,
 };
-use rules::numbers::BAD;
-use rules::{Account, Desk, Hash, Mode, Outcome, RelayNo, TokenNo, VolumeNo};
+use rules::{Account, Desk, Hash, Mode, Outcome, Refusal, RelayNo, TokenNo, VolumeNo};
 use sound_work::{advance_when_sound, commit_when_sound};
 use soundness::is_sound;
 
@@ -24,7 +23,7 @@ pub fn advance(d: Desk, block: u64) -> Outcome
     ensures { result ≡ step (Call.ask (Ask.advance block)) d }
 {
     if !is_sound(d) {
-        return refuse(d, BAD);
+        return refuse(d, Refusal::Bad);
     }
     let t = d.tables;
     with_advance(d, advance_when_sound(t, block))
@@ -35,7 +34,7 @@ pub fn create(d: Desk, account: Account, name: &[u8], k: u8, m: u8, cap: Cap) ->
     ensures { result ≡ step (Call.ask (Ask.create account name.now k m cap)) d }
 {
     if !is_sound(d) {
-        return refuse(d, BAD);
+        return refuse(d, Refusal::Bad);
     }
     let t = d.tables;
     with_volumes(d, volumes::create_on(t, account, name, k, m, cap))
@@ -46,7 +45,7 @@ pub fn deposit(d: Desk, volume: VolumeNo, coins: u64) -> Outcome
     ensures { result ≡ step (Call.ask (Ask.deposit volume coins)) d }
 {
     if !is_sound(d) {
-        return refuse(d, BAD);
+        return refuse(d, Refusal::Bad);
     }
     let t = d.tables;
     with_volumes(d, volumes::deposit_on(t, volume, coins))
@@ -57,7 +56,7 @@ pub fn delete(d: Desk, account: Account, volume: VolumeNo) -> Outcome
     ensures { result ≡ step (Call.ask (Ask.delete account volume)) d }
 {
     if !is_sound(d) {
-        return refuse(d, BAD);
+        return refuse(d, Refusal::Bad);
     }
     let t = d.tables;
     with_delete(d, volumes::delete_on(t, account, volume))
@@ -68,7 +67,7 @@ pub fn undelete(d: Desk, account: Account, volume: VolumeNo) -> Outcome
     ensures { result ≡ step (Call.ask (Ask.undelete account volume)) d }
 {
     if !is_sound(d) {
-        return refuse(d, BAD);
+        return refuse(d, Refusal::Bad);
     }
     let t = d.tables;
     with_volumes(d, volumes::undelete_on(t, account, volume))
@@ -88,7 +87,7 @@ pub fn grant(
     ensures { result ≡ step (Call.ask (Ask.grant account volume (scope_arg prefix.now mode cap from until))) d }
 {
     if !is_sound(d) {
-        return refuse(d, BAD);
+        return refuse(d, Refusal::Bad);
     }
     let t = d.tables;
     with_tokens(
@@ -110,7 +109,7 @@ pub fn attenuate(
     ensures { result ≡ step (Call.ask (Ask.attenuate token (scope_arg prefix.now mode cap from until))) d }
 {
     if !is_sound(d) {
-        return refuse(d, BAD);
+        return refuse(d, Refusal::Bad);
     }
     let t = d.tables;
     with_tokens(
@@ -124,7 +123,7 @@ pub fn revoke(d: Desk, account: Account, token: TokenNo) -> Outcome
     ensures { result ≡ step (Call.ask (Ask.revoke account token)) d }
 {
     if !is_sound(d) {
-        return refuse(d, BAD);
+        return refuse(d, Refusal::Bad);
     }
     let t = d.tables;
     with_tokens(d, tokens::revoke_on(t, account, token))
@@ -135,10 +134,10 @@ pub fn open(d: Desk, slot: u8, token: TokenNo) -> Outcome
     ensures { result ≡ step (Call.on_slot slot (Work.opens token)) d }
 {
     if !is_sound(d) {
-        return refuse(d, BAD);
+        return refuse(d, Refusal::Bad);
     }
     if 4 <= slot {
-        return refuse(d, BAD);
+        return refuse(d, Refusal::Bad);
     }
     let i = slot as usize;
     let t = d.tables;
@@ -151,10 +150,10 @@ pub fn stage(d: Desk, slot: u8, path: &[u8], size: u64, hash: Hash) -> Outcome
     ensures { result ≡ step (Call.on_slot slot (Work.stages path.now size hash)) d }
 {
     if !is_sound(d) {
-        return refuse(d, BAD);
+        return refuse(d, Refusal::Bad);
     }
     if 4 <= slot {
-        return refuse(d, BAD);
+        return refuse(d, Refusal::Bad);
     }
     let i = slot as usize;
     let t = d.tables;
@@ -167,10 +166,10 @@ pub fn commit(d: Desk, slot: u8) -> Outcome
     ensures { result ≡ step (Call.on_slot slot Work.commits) d }
 {
     if !is_sound(d) {
-        return refuse(d, BAD);
+        return refuse(d, Refusal::Bad);
     }
     if 4 <= slot {
-        return refuse(d, BAD);
+        return refuse(d, Refusal::Bad);
     }
     let i = slot as usize;
     let t = d.tables;
@@ -183,10 +182,10 @@ pub fn abandon(d: Desk, slot: u8) -> Outcome
     ensures { result ≡ step (Call.on_slot slot Work.abandons) d }
 {
     if !is_sound(d) {
-        return refuse(d, BAD);
+        return refuse(d, Refusal::Bad);
     }
     if 4 <= slot {
-        return refuse(d, BAD);
+        return refuse(d, Refusal::Bad);
     }
     let i = slot as usize;
     let t = d.tables;
@@ -199,7 +198,7 @@ pub fn remove(d: Desk, account: Account, volume: VolumeNo, path: &[u8]) -> Outco
     ensures { result ≡ step (Call.ask (Ask.remove account volume path.now)) d }
 {
     if !is_sound(d) {
-        return refuse(d, BAD);
+        return refuse(d, Refusal::Bad);
     }
     let t = d.tables;
     with_remove(d, removes::remove_on(t, account, volume, path))
@@ -210,7 +209,7 @@ pub fn look(d: Desk, token: TokenNo, path: &[u8]) -> Outcome
     ensures { result ≡ step (Call.ask (Ask.look token path.now)) d }
 {
     if !is_sound(d) {
-        return refuse(d, BAD);
+        return refuse(d, Refusal::Bad);
     }
     let t = d.tables;
     answered(d, tokens::look_on(t, token, path))
@@ -221,7 +220,7 @@ pub fn register(d: Desk, capacity: u64) -> Outcome
     ensures { result ≡ step (Call.ask (Ask.register capacity)) d }
 {
     if !is_sound(d) {
-        return refuse(d, BAD);
+        return refuse(d, Refusal::Bad);
     }
     let t = d.tables;
     with_relays(d, relays::register_on(t, capacity))
@@ -232,7 +231,7 @@ pub fn heartbeat(d: Desk, relay: RelayNo) -> Outcome
     ensures { result ≡ step (Call.ask (Ask.heartbeat relay)) d }
 {
     if !is_sound(d) {
-        return refuse(d, BAD);
+        return refuse(d, Refusal::Bad);
     }
     let t = d.tables;
     with_relays(d, relays::heartbeat_on(t, relay))

@@ -6,8 +6,8 @@ use Rattle.amount.specs.declared.Cap.{Cap}
 use Rattle.amount.specs.declared.Cap.TheVariants.{Unlimited, Bytes}
 use Rattle.lists.specs.Lists.{all_of}
 use Rattle.lists.specs.BoolLaws.{and_left, and_right}
-use Rattle.text.specs.declared.Text.{Text}
-use Rattle.text.specs.declared.name.Name.{Name}
+use Rattle.text.specs.Text.{Text}
+use Rattle.text.specs.Text.{Name}
 use Rattle.text.specs.Text.{path_limit, name_limit}
 use Rattle.rules.specs.declared.Placement.{Placement}
 use Rattle.rules.specs.declared.Volume.{Volume}
@@ -110,14 +110,13 @@ sized l n h = eqb-true (length l) n h
 -- rows of w bytes each
 long_rows : {A : Type 0} (f : A → List ℕ) (p : A → Bool) (w : ℕ) → ((x : A) → p x ≡ true → Long w (f x)) → (l : List A) → all_of p l ≡ true
     → Long (length l * w) (flat_map f l)
-unfolding flat_map all_of
+unfolding flat_map
 long_rows f p w g [] h = omega arith
 long_rows f p w g (x ∷ l) h =
     length-append (f x) (flat_map f l)
     ∙ omega (arith, g x (and_left (p x) (all_of p l) h), long_rows f p w g l (and_right (p x) (all_of p l) h), suc-mul (length l) w)
 
 all_true : {A : Type 0} (l : List A) → all_of (λ _. true) l ≡ true
-unfolding all_of
 all_true [] = refl
 all_true (x ∷ l) = all_true l
 

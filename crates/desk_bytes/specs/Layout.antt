@@ -4,8 +4,8 @@ use mathlib.Core.List.{List, ◌++◌, flat_map}
 use Rattle.std.specs.Prelude.{ℕ, ◌+◌, ◌*◌}
 use Rattle.amount.specs.declared.Cap.{Cap}
 use Rattle.amount.specs.declared.Cap.TheVariants.{Unlimited, Bytes}
-use Rattle.text.specs.declared.Text.{Text}
-use Rattle.text.specs.declared.name.Name.{Name}
+use Rattle.text.specs.Text.{Text}
+use Rattle.text.specs.Text.{Name}
 use Rattle.text.specs.Text.{path_limit, name_limit}
 use Rattle.rules.specs.declared.RelayNo.{RelayNo}
 use Rattle.rules.specs.declared.Placement.{Placement}

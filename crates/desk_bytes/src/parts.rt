@@ -75,17 +75,14 @@ pub(crate) fn put_three(out: &mut [u8], at: usize, x: u32, y: u32, z: u32) -> us
 }
 
 // Bytes.
+#[tactic(auto, unfolding(crate::specs::Written::Wrote))]
 pub(crate) fn put_bytes(out: &mut [u8], at: usize, s: &[u8]) -> usize
     requires { at + length s.now ≤ length out.old }
     ensures { (result ≡ at + length s.now) × Wrote at s.now out.old result out.new }
 {
-    let mut i = 0;
-    while i < s.len() {
-        let p = at + i;
-        out[p] = s[i];
-        i += 1;
-    }
-    at + s.len()
+    let end = at + s.len();
+    out[at..end].copy_from_slice(s);
+    end
 }
 
 // All bytes of a text's array.

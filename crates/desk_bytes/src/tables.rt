@@ -14,11 +14,9 @@ pub(crate) fn put_volumes(out: &mut [u8], start: usize, rows: [Volume; 8]) -> us
     ensures { (result ≡ start + volume_rows * volume_length) × Wrote start (flat_map volume_bytes rows) out.old result out.new }
 {
     let mut at = start;
-    let mut i: usize = 0;
-    while i < 8 {
+    for i in 0..8 {
         let row = rows[i];
         at = put_volume(out, at, row);
-        i += 1;
     }
     at
 }
@@ -28,11 +26,9 @@ pub(crate) fn put_entries(out: &mut [u8], start: usize, rows: [Entry; 64]) -> us
     ensures { (result ≡ start + entry_rows * entry_length) × Wrote start (flat_map entry_bytes rows) out.old result out.new }
 {
     let mut at = start;
-    let mut i: usize = 0;
-    while i < 64 {
+    for i in 0..64 {
         let row = rows[i];
         at = put_entry(out, at, row);
-        i += 1;
     }
     at
 }
@@ -42,11 +38,9 @@ pub(crate) fn put_tokens(out: &mut [u8], start: usize, rows: [Token; 32]) -> usi
     ensures { (result ≡ start + token_rows * token_length) × Wrote start (flat_map token_bytes rows) out.old result out.new }
 {
     let mut at = start;
-    let mut i: usize = 0;
-    while i < 32 {
+    for i in 0..32 {
         let row = rows[i];
         at = put_token(out, at, row);
-        i += 1;
     }
     at
 }
@@ -56,11 +50,9 @@ pub(crate) fn put_relays(out: &mut [u8], start: usize, rows: [Relay; 32]) -> usi
     ensures { (result ≡ start + relay_rows * relay_length) × Wrote start (flat_map relay_bytes rows) out.old result out.new }
 {
     let mut at = start;
-    let mut i: usize = 0;
-    while i < 32 {
+    for i in 0..32 {
         let row = rows[i];
         at = put_relay(out, at, row);
-        i += 1;
     }
     at
 }
@@ -70,11 +62,9 @@ pub(crate) fn put_puts(out: &mut [u8], start: usize, rows: [Put; 8]) -> usize
     ensures { (result ≡ start + put_rows * put_length) × Wrote start (flat_map put_bytes rows) out.old result out.new }
 {
     let mut at = start;
-    let mut i: usize = 0;
-    while i < 8 {
+    for i in 0..8 {
         let row = rows[i];
         at = put_put(out, at, row);
-        i += 1;
     }
     at
 }
@@ -84,11 +74,9 @@ pub(crate) fn put_sessions(out: &mut [u8], start: usize, rows: [Session; 4]) -> 
     ensures { (result ≡ start + slot_rows * session_length) × Wrote start (flat_map session_bytes rows) out.old result out.new }
 {
     let mut at = start;
-    let mut i: usize = 0;
-    while i < 4 {
+    for i in 0..4 {
         let row = rows[i];
         at = put_session(out, at, row);
-        i += 1;
     }
     at
 }
@@ -98,11 +86,9 @@ pub(crate) fn put_relay_numbers(out: &mut [u8], start: usize, rows: [RelayNo; 24
     ensures { (result ≡ start + shard_places * 4) × Wrote start (flat_map relay_no_bytes rows) out.old result out.new }
 {
     let mut at = start;
-    let mut i: usize = 0;
-    while i < 24 {
+    for i in 0..24 {
         let row = rows[i];
         at = put_u32(out, at, row.0);
-        i += 1;
     }
     at
 }

@@ -26,7 +26,7 @@ other_path : (n : ℕ) (a b : List ℕ) → eqb (key_of n a) (key_of n b) ≡ fa
 other_path n a b e = not_pass (same_bytes a b) (λ t. not_both (eq-eqb (key_of n a) (key_of n b) (ap (key_of n) (same_eq a b t))) e)
 
 no_put : (n : VolumeNo) (path : List ℕ) (ps : List Put) → any_of (is_key (key_of n.0 path)) (map (put_key n) ps) ≡ false → any_of (is_put path) ps ≡ false
-unfolding any_of is_put
+unfolding is_put
 no_put n path [] e = refl
 no_put n path (p ∷ ps) e =
     let first = eqb (put_key n p) (key_of n.0 path) in

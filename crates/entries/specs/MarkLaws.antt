@@ -28,7 +28,7 @@ use Rattle.entries.specs.Marks.{is_set, marked, cleared_by}
 
 -- marks by a test
 pub marked_keep : {A : Type 0} (p : A → Bool) (l : List A) → marked (map p l) l ≡ keep p l
-unfolding marked keep
+unfolding marked
 marked_keep p [] = refl
 marked_keep p (x ∷ xs) = rw (marked_keep p xs)
 
@@ -82,7 +82,7 @@ module _ (ms : List Bool) (n i : ℕ) where
 
 -- where no mark is set, no row is marked, and nothing is given back
 none_marked : {A : Type 0} (ms : List Bool) (l : List A) → any_of is_set ms ≡ false → marked ms l ≡ []
-unfolding marked any_of
+unfolding marked
 none_marked [] l e = refl
 none_marked (b ∷ bs) [] e = refl
 none_marked (b ∷ bs) (x ∷ xs) e = rw (or_left b (any_of is_set bs) e) (none_marked bs xs (or_right b (any_of is_set bs) e))

@@ -12,12 +12,8 @@ pub(crate) fn put_keys(n: VolumeNo, puts: [Put; 8], count: usize) -> [u64; 8]
 {
     let m = put_count(count);
     let mut keys = [0u64; 8];
-    let mut i: usize = 0;
-    while i < m {
-        let p = puts[i];
-        let path = p.path;
-        keys[i] = path_key(n.0, path);
-        i += 1;
+    for i in 0..m {
+        keys[i] = path_key(n.0, puts[i].path);
     }
     keys
 }
@@ -28,12 +24,10 @@ pub(crate) fn has_key(keys: &[u64; 8], key: u64) -> bool
     ensures { result ≡ any_of (is_key key) keys.now }
 {
     let mut found = false;
-    let mut i: usize = 0;
-    while i < 8 {
+    for i in 0..8 {
         if keys[i] == key {
             found = true;
         }
-        i += 1;
     }
     found
 }

@@ -15,13 +15,11 @@ pub fn mark_path(entries: [Entry; 64], n: VolumeNo, path: &[u8]) -> [bool; 64]
     ensures { result ≡ map (is_entry n path.now) entries }
 {
     let mut marks = [false; 64];
-    let mut i: usize = 0;
-    while i < 64 {
+    for i in 0..64 {
         if entries[i].volume.0 == n.0 {
             let e = entries[i];
-            marks[i] = is_entry(e, n, path);
+            marks[i] = is_entry(&e, n, path);
         }
-        i += 1;
     }
     marks
 }
@@ -32,12 +30,10 @@ pub fn clear_marked(entries: [Entry; 64], marks: [bool; 64]) -> [Entry; 64]
 {
     let fresh = rules::fresh_entry();
     let mut left = entries;
-    let mut i: usize = 0;
-    while i < 64 {
+    for i in 0..64 {
         if marks[i] {
             left[i] = fresh;
         }
-        i += 1;
     }
     left
 }
@@ -46,14 +42,7 @@ pub fn clear_marked(entries: [Entry; 64], marks: [bool; 64]) -> [Entry; 64]
 pub fn any_mark(marks: &[bool]) -> bool
     ensures { result ≡ any_of is_set marks.now }
 {
-    let mut i: usize = 0;
-    while i < marks.len() {
-        if marks[i] {
-            return true;
-        }
-        i += 1;
-    }
-    false
+    marks.iter().any(|x| *x)
 }
 
 // The relays after each marked entry gave its room and held shards back. Where no mark is set they are returned as they came.
@@ -69,14 +58,12 @@ pub fn give_back(
         return relays;
     }
     let mut rows = relays;
-    let mut i: usize = 0;
-    while i < 64 {
+    for i in 0..64 {
         if marks[i] {
             let e = entries[i];
             let next = give_back_entry(rows, volumes, e);
             rows = next;
         }
-        i += 1;
     }
     rows
 }

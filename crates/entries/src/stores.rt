@@ -4,20 +4,16 @@ ghost use Rattle.lists.specs.Lists.{count_if};
 ghost use Rattle.rules.specs.Commit.{is_replaced, is_new_path, entry_for, store_all};
 
 use super::keys::{has_key, put_keys};
-use super::paths::{is_staged, write_anew};
+use super::paths::{is_staged, text_len, write_anew};
 use rows::{is_entry, is_number, path_key, put_count};
 use rules::{Entry, Placement, Put, VolumeNo};
-use text::text_len;
 
 // Whether one of the first `count` puts replaces the entry.
+#[tactic(auto, unfolding(rules::specs::Commit::is_replaced))]
 fn is_replaced(e: Entry, n: VolumeNo, puts: [Put; 8], count: usize) -> bool
     ensures { result ≡ is_replaced n (take count puts) e }
 {
-    if !is_number(n.0, e.volume.0) {
-        return false;
-    }
-    let path = e.path;
-    is_staged(puts, count, path)
+    is_number(n.0, e.volume.0) && is_staged(puts, count, e.path)
 }
 
 // A mark for each entry: whether one of the first `count` puts replaces it. A row of another volume is not copied, and the puts are
@@ -27,8 +23,7 @@ pub fn mark_replaced(entries: [Entry; 64], n: VolumeNo, puts: [Put; 8], count: u
 {
     let keys = put_keys(n, puts, count);
     let mut marks = [false; 64];
-    let mut i: usize = 0;
-    while i < 64 {
+    for i in 0..64 {
         if entries[i].volume.0 == n.0 {
             let e = entries[i];
             let path = e.path;
@@ -37,7 +32,6 @@ pub fn mark_replaced(entries: [Entry; 64], n: VolumeNo, puts: [Put; 8], count: u
                 marks[i] = is_replaced(e, n, puts, count);
             }
         }
-        i += 1;
     }
     marks
 }
@@ -50,27 +44,23 @@ pub fn count_new(entries: [Entry; 64], n: VolumeNo, puts: [Put; 8], count: usize
     let marks = mark_replaced(entries, n, puts, count);
     let m = put_count(count);
     let mut new: usize = 0;
-    let mut i: usize = 0;
-    while i < m {
+    for i in 0..m {
         let p = puts[i];
         let path = p.path;
         let k = text_len(path);
         let b = path.bytes;
         let mut there = false;
-        let mut j: usize = 0;
-        while j < 64 {
+        for j in 0..64 {
             if marks[j] {
                 let e = entries[j];
-                if is_entry(e, n, &b[..k]) {
+                if is_entry(&e, n, &b[..k]) {
                     there = true;
                 }
             }
-            j += 1;
         }
         if !there {
             new += 1;
         }
-        i += 1;
     }
     new
 }
@@ -79,12 +69,10 @@ pub fn count_new(entries: [Entry; 64], n: VolumeNo, puts: [Put; 8], count: usize
 fn entry_for(n: VolumeNo, p: Put, place: Placement) -> Entry
     ensures { result ≡ entry_for n p place }
 {
-    let old = p.path;
-    let path = write_anew(old);
     let hash = p.hash;
     Entry {
         volume: n,
-        path,
+        path: write_anew(p.path),
         size: p.size,
         hash,
         placement: place,
@@ -120,8 +108,7 @@ pub fn store_all(
     let mut marks = mark_replaced(entries, n, puts, count);
     let m = put_count(count);
     let mut out = entries;
-    let mut i: usize = 0;
-    while i < m {
+    for i in 0..m {
         let p = puts[i];
         let place = places[i];
         let path = p.path;
@@ -129,13 +116,11 @@ pub fn store_all(
         let b = path.bytes;
         let mut row: usize = 64;
         let mut free: usize = 64;
-        let mut j: usize = 64;
-        while 0 < j {
-            j -= 1;
+        for j in (0..64).rev() {
             free = lower_free(out[j].volume.0, j, free);
             if marks[j] {
                 let e = out[j];
-                if is_entry(e, n, &b[..k]) {
+                if is_entry(&e, n, &b[..k]) {
                     row = j;
                 }
             }
@@ -145,7 +130,6 @@ pub fn store_all(
             out[to] = entry_for(n, p, place);
             marks[to] = true;
         }
-        i += 1;
     }
     out
 }

@@ -2,6 +2,8 @@
 use mathlib.Core.Path.{◌≡◌, refl, sym, ◌∙◌, ap}
 use mathlib.Core.Bool.{Bool, true, false, ◌||◌, cond, not}
 use mathlib.Core.List.{List, map}
+use Rattle.std.specs.Prelude.{Option, Some, None}
+use native.Mathlib.Omega.{arith}
 use Prim.Native.Nat.{ℕ, ◌<◌, ◌≤◌}
 use borrow.Author.Rules.{rules}
 use borrow.Author.Tests.{not-true, not-false, le-leb, lt-leb}
@@ -24,7 +26,6 @@ use Rattle.rules.specs.Advance.{is_due, entry_of_one, relays_leave, settled, set
 use Rattle.rents.specs.Within.{entry_volume}
 use Rattle.entries.specs.Marks.{marked, cleared_by}
 use Rattle.entries.specs.MarkLaws.{marked_keep, cleared_by_lem}
-use Rattle.epochs.specs.declared.Settled.{Settled}
 use Rattle.epochs.specs.declared.PassOutcome.{PassOutcome}
 use Rattle.epochs.specs.declared.CollectOutcome.{CollectOutcome}
 use Rattle.epochs.specs.Parts.{on_advance, on_pass, pass_refused, on_collect, collected}
@@ -51,31 +52,35 @@ module _ (block clock rate : ℕ) (rows : List Volume) (ms sizes : List ℕ) (n 
   test_is : (b : Bool) → leb 1 n ≡ b → (t : Tables) → t.clock ≡ clock → leb 1 (epoch_ends t.clock block) ≡ b
   test_is b w t c = ap (λ (k : ℕ). leb 1 (epoch_ends k block)) c ∙ ap (leb 1) (sym e) ∙ w
 
-  pub within_epoch : n < 1 → AtSettled block clock rate rows ms sizes (record { fits = true; rows = rows })
+  pub within_epoch : n < 1 → AtSettled block clock rate rows ms sizes (Some rows)
   unfolding settled_at
   within_epoch h =
       record {
         told = λ t c p.
-            rw (test_is false (lt-leb 1 n h) t c) (ap (λ (l : List Volume). record { fits = true; rows = l }) (sym p.rows_of));
+            rw (test_is false (lt-leb 1 n h) t c) (ap (λ (l : List Volume). Some l) (sym p.rows_of));
       }
 
   -- y is the volumes after the epoch end
-  pub at_end : (y : Settled) → 1 ≤ n → RowsSettled rate rows ms sizes y → AtSettled block clock rate rows ms sizes y
+  pub at_end : (y : Option (List Volume)) → 1 ≤ n → RowsSettled rate rows ms sizes y → AtSettled block clock rate rows ms sizes y
   unfolding settled_at
   at_end y h s = record { told = λ t c p. s.told t p ∙ sym (rw (test_is true (le-leb 1 n h) t c)) }
 
--- they can be settled where the advance can be made, and are those of the rules
-fits_at : (t : Tables) (ends : Bool) → (cond ends (settled_rows t) (record { fits = true; rows = t.volumes })).fits ≡ (not ends || can_settle_all t)
-unfolding settled_rows
-fits_at t true = refl
-fits_at t false = refl
+-- the volumes of the rules at the block
+abbrev rows_then : Tables → Bool → List Volume
+rows_then t ends = cond ends (map (settled t) t.volumes) t.volumes
 
-rows_at : (t : Tables) (block : ℕ) (ends : Bool) → (not ends || can_settle_all t) ≡ true
-    → at_epoch ends (relays_leave (with_clock t block))
-    ≡ with_volumes (relays_leave (with_clock t block)) (cond ends (settled_rows t) (record { fits = true; rows = t.volumes })).rows
-unfolding at_epoch settle settled rent_now relays_leave settled_rows
-rows_at t block true w = rw w
-rows_at t block false w = refl
+-- they can be settled where the advance can be made, and are those of the rules
+settled_then : (t : Tables) (ends can : Bool) → can_settle_all t ≡ can
+    → cond ends (settled_rows t) (Some t.volumes) ≡ cond (not ends || can) (Some (rows_then t ends)) None
+unfolding settled_rows
+settled_then t true can w = rw w
+settled_then t false can w = refl
+
+rows_at : (t : Tables) (block : ℕ) (ends : Bool)
+    → at_epoch ends (relays_leave (with_clock t block)) ≡ with_volumes (relays_leave (with_clock t block)) (rows_then t ends)
+unfolding at_epoch settle settled rent_now relays_leave
+rows_at t block true = refl
+rows_at t block false = refl
 
 -- the first part of an advance, of tables with these parts: b is what the code said of the block
 module _ (t : Tables) (block clock rate : ℕ) (vs : List Volume) (rs : List Relay) (ms sizes : List ℕ) (c : t.clock ≡ clock) (g : t.rate ≡ rate)
@@ -105,42 +110,41 @@ module _ (t : Tables) (block clock rate : ℕ) (vs : List Volume) (rs : List Rel
       bad_due = rw (sym e ∙ f) (nothing_due CLOCK q)
 
   -- y is the volumes at the block
-  module _ (y : Settled) (f : b ≡ false) (told : AtSettled block clock rate vs ms sizes y) where
-    s : y ≡ settled_at block t
-    s = told.told t c parts
-
-    fits_all_lem : y.fits ≡ can_advance block t
+  module _ (y : Option (List Volume)) (f : b ≡ false) (told : AtSettled block clock rate vs ms sizes y) where
+    made : (can : Bool) → can_advance block t ≡ can → y ≡ cond can (Some (rows_then t (leb 1 (epoch_ends t.clock block)))) None
     unfolding settled_at can_advance
-    fits_all_lem = rw s (fits_at t (leb 1 (epoch_ends t.clock block)))
+    made can w = told.told t c parts ∙ settled_then t (leb 1 (epoch_ends t.clock block)) (can_settle_all t) refl ∙ rw w
 
-    module _ (o : PassOutcome) (w : not y.fits ≡ true) (q : o ≡ pass_refused clock vs rs BAD) where
-      cannot : can_advance block t ≡ false
-      cannot = sym fits_all_lem ∙ not-true y.fits w
+    cannot : y ≡ None → (can : Bool) → can_advance block t ≡ can → can ≡ false
+    cannot n true w = absurd (let q : ◌≡◌ {A = ℕ} 0 1 = cc (made true w) in omega arith)
+    cannot n false w = refl
 
+    can : (rows : List Volume) → y ≡ Some rows → (can : Bool) → can_advance block t ≡ can
+        → (can ≡ true) × (rows ≡ rows_then t (leb 1 (epoch_ends t.clock block)))
+    can rows n true w = (refl, cc (made true w))
+    can rows n false w = absurd (let q : ◌≡◌ {A = ℕ} 0 1 = cc (made false w) in omega arith)
+
+    module _ (o : PassOutcome) (w : y ≡ None) (q : o ≡ pass_refused clock vs rs BAD) where
       pub unsettled_outcome : on_pass t o ≡ pass_within block t
       unfolding pass_within
-      unsettled_outcome = rw (sym e ∙ f, cannot) (refuses o BAD q)
+      unsettled_outcome = rw (sym e ∙ f, cannot w _ refl) (refuses o BAD q)
 
       pub unsettled_due : o.due ≡ due_within block t
       unfolding due_within
-      unsettled_due = rw (sym e ∙ f, cannot) (nothing_due o BAD q)
+      unsettled_due = rw (sym e ∙ f, cannot w _ refl) (nothing_due o BAD q)
 
-    module _ (w : not y.fits ≡ false) where
-      can : can_advance block t ≡ true
-      can = sym fits_all_lem ∙ not-false y.fits w
-
-      before : at_epoch (leb 1 (epoch_ends t.clock block)) (relays_leave (with_clock t block)) ≡ with_volumes (relays_leave (with_clock t block)) y.rows
-      unfolding settled_at can_advance
-      before = rw s (rows_at t block (leb 1 (epoch_ends t.clock block)) can)
+    module _ (rows : List Volume) (w : y ≡ Some rows) where
+      before : at_epoch (leb 1 (epoch_ends t.clock block)) (relays_leave (with_clock t block)) ≡ with_volumes (relays_leave (with_clock t block)) rows
+      before = rows_at t block (leb 1 (epoch_ends t.clock block)) ∙ ap (with_volumes (relays_leave (with_clock t block))) (sym (can rows w _ refl).1)
 
       pub passed_outcome : (left : List Relay) (due : Bool) (answer : Answer) → left ≡ cleared (is_dead block) fresh_relay rs → answer ≡ success block
-          → on_pass t (record { answer = answer; clock = block; volumes = y.rows; relays = left; due = due }) ≡ pass_within block t
+          → on_pass t (record { answer = answer; clock = block; volumes = rows; relays = left; due = due }) ≡ pass_within block t
       unfolding pass_within relays_leave
-      passed_outcome left due answer r a = rw (sym e ∙ f, can, before, r, a, l)
+      passed_outcome left due answer r a = rw (sym e ∙ f, (can rows w _ refl).0, before, r, a, l)
 
-      pub passed_due : (due : Bool) → due ≡ any_of (is_due block) y.rows → due ≡ due_within block t
+      pub passed_due : (due : Bool) → due ≡ any_of (is_due block) rows → due ≡ due_within block t
       unfolding pass_within due_within relays_leave
-      passed_due due d = rw (sym e ∙ f, can, before) d
+      passed_due due d = rw (sym e ∙ f, (can rows w _ refl).0, before) d
 
 -- of the tables that the parts are of
 module _ (t : Tables) (block : ℕ) (o : PassOutcome) (ms sizes : List ℕ) (ow : ms ≡ map entry_volume t.entries) (z : sizes ≡ map size_of t.entries)

@@ -1,11 +1,12 @@
 -- A volume, and the volumes, at an epoch end, or as they were where the machine's numbers cannot settle one. Assumes nothing.
 use mathlib.Core.Path.{◌≡◌, refl, sym, ◌∙◌, ap}
-use mathlib.Core.Bool.{true, false, not}
+use Rattle.std.specs.Prelude.{Option, Some, None}
+use mathlib.Core.Bool.{Bool, true, false, cond}
 use mathlib.Core.List.{List, map}
 use Prim.Native.Nat.{ℕ, ◌+◌, ◌<◌, ◌≤◌, min}
 use native.Mathlib.Omega.{arith}
 use borrow.Author.Rules.{rules}
-use borrow.Author.Tests.{not-false, lt-ltb, le-ltb}
+use borrow.Author.Tests.{lt-ltb, le-ltb}
 use lib.ListN.{length, get_or, set, length-set}
 use Rattle.lists.specs.Lists.{all_of}
 use Rattle.lists.specs.AnswerLaws.{none_given, some_given}
@@ -16,36 +17,33 @@ use Rattle.rules.specs.declared.Volume.{Volume}
 use Rattle.rules.specs.declared.Tables.{Tables}
 use Rattle.rules.specs.Advance.{after_rent, settled}
 use Rattle.rows.specs.Blank.{blank_volume}
-use Rattle.rents.specs.declared.Rent.{Rent}
-use Rattle.rents.specs.declared.Rent.TheVariants.{Coins, PastLimits}
 use Rattle.rents.specs.Within.{rent_within, raw_in, sizes_at, volume_rent, most_raw}
 use Rattle.rents.specs.WithinLaws.{rent_exact, raw_listed}
-use Rattle.epochs.specs.declared.SettledRow.{SettledRow}
 use Rattle.epochs.specs.Within.{RentParts, RowSettled, RowsSettled, most_grace, can_settle, can_settle_all, settled_row, settled_rows}
 
 module _ (t : Tables) (v : Volume) where
-  pub free_stays : v.no.0 ≡ 0 → record { fits = true; row = v } ≡ settled_row t v
+  pub free_stays : v.no.0 ≡ 0 → Some v ≡ settled_row t v
   unfolding settled_row can_settle settled
   free_stays e = sym (rw (none_given v.no.0 e))
 
   -- x is the rent that the code asked for, of the rate and the raw bytes that it was given
-  module _ (x : Rent) (rate raw : ℕ) (some : v.no.0 ≡ 0 → ⊥) (g : rate ≡ t.rate) (b : raw ≡ raw_in v.no t.entries)
+  module _ (x : Option ℕ) (rate raw : ℕ) (some : v.no.0 ≡ 0 → ⊥) (g : rate ≡ t.rate) (b : raw ≡ raw_in v.no t.entries)
       (a : x ≡ rent_within rate v.k v.m raw) where
     rent_is : x ≡ volume_rent t v
     unfolding volume_rent
     rent_is = a ∙ rw (g, b)
 
-    pub past_limits : x ≡ PastLimits → record { fits = false; row = v } ≡ settled_row t v
+    pub past_limits : x ≡ None → None ≡ settled_row t v
     unfolding settled_row can_settle
     past_limits w = sym (rw (some_given v.no.0 some, sym rent_is ∙ w))
 
-    module _ (rent : ℕ) (w : x ≡ Coins rent) where
-      pub grace_full : most_grace ≤ v.grace → record { fits = false; row = v } ≡ settled_row t v
+    module _ (rent : ℕ) (w : x ≡ Some rent) where
+      pub grace_full : most_grace ≤ v.grace → None ≡ settled_row t v
       unfolding settled_row can_settle
       grace_full h = sym (rw (some_given v.no.0 some, sym rent_is ∙ w, le-ltb v.grace most_grace h))
 
       -- y is what the code made of the volume
-      pub rent_paid_lem : (y : Volume) → v.grace < most_grace → y ≡ after_rent rent v → record { fits = true; row = y } ≡ settled_row t v
+      pub rent_paid_lem : (y : Volume) → v.grace < most_grace → y ≡ after_rent rent v → Some y ≡ settled_row t v
       unfolding settled_row can_settle settled
       rent_paid_lem y h q =
           rw q (sym (rw (some_given v.no.0 some, sym rent_is ∙ w, lt-ltb v.grace most_grace h, ← rent_exact t v rent (sym rent_is ∙ w))))
@@ -71,7 +69,7 @@ module _ (rate : ℕ) (rows : List Volume) (ms sizes : List ℕ) (n : ℕ) where
     pub settle_size : length out ≡ length rows
     settle_size = h.size
 
-    pub settle_end : n ≤ i → RowsSettled rate rows ms sizes (record { fits = true; rows = out })
+    pub settle_end : n ≤ i → RowsSettled rate rows ms sizes (Some out)
     unfolding settled_rows can_settle_all
     settle_end k = record {
       told = λ t p.
@@ -82,35 +80,41 @@ module _ (rate : ℕ) (rows : List Volume) (ms sizes : List ℕ) (n : ℕ) where
     }
 
     -- x is what the code made of row i, with the raw bytes that it added up
-    module _ (x : SettledRow) (raw : ℕ) (k : i < n)
+    module _ (x : Option Volume) (raw : ℕ) (k : i < n)
         (q : RowSettled rate raw (get_or rows i blank_volume) x)
         (r : raw ≡ min (sizes_at (get_or rows i blank_volume).no.0 ms sizes) most_raw) where
       module _ (t : Tables) (p : RentParts t rate rows ms sizes) where
         row_is : x ≡ settled_row t (get_or rows i blank_volume)
         row_is = q.told t (sym p.rate_of) (r ∙ rw (p.volumes_of, p.sizes_of) (raw_listed (get_or rows i blank_volume).no t.entries))
 
-        fits_row : x.fits ≡ can_settle t (get_or rows i blank_volume)
+        made : (b : Bool) → can_settle t (get_or rows i blank_volume) ≡ b → x ≡ cond b (Some (settled t (get_or rows i blank_volume))) None
         unfolding settled_row
-        fits_row = ap (λ (y : SettledRow). y.fits) row_is
+        made b f = row_is ∙ rw f
 
-        made_row : not x.fits ≡ false → x.row ≡ settled t (get_or rows i blank_volume)
-        unfolding settled_row
-        made_row f = ap (λ (y : SettledRow). y.row) row_is ∙ rw (sym fits_row ∙ not-false x.fits f)
+        fails : x ≡ None → (b : Bool) → can_settle t (get_or rows i blank_volume) ≡ b → b ≡ false
+        fails e true f = absurd (let z : ◌≡◌ {A = ℕ} 0 1 = cc (made true f) in omega arith)
+        fails e false f = refl
 
-      pub settle_fails : not x.fits ≡ true → RowsSettled rate rows ms sizes (record { fits = false; rows = rows })
+        settles_to : (y : Volume) → x ≡ Some y → (b : Bool) → can_settle t (get_or rows i blank_volume) ≡ b
+            → (b ≡ true) × (y ≡ settled t (get_or rows i blank_volume))
+        settles_to y e true f = (refl, cc (made true f))
+        settles_to y e false f = absurd (let z : ◌≡◌ {A = ℕ} 0 1 = cc (made false f) in omega arith)
+
+      pub settle_fails : x ≡ None → RowsSettled rate rows ms sizes None
       unfolding settled_rows can_settle_all
       settle_fails f = record {
         told = λ t p.
-            let a = ap (all_of (can_settle t)) p.rows_of ∙ sym (all_failed blank_volume (can_settle t) rows n i x.fits (h.fitting t p) k (fits_row t p) f) in
-            rw (a, sym p.rows_of);
+            let stays : can_settle t (get_or rows i blank_volume) ≡ false = fails t p f _ refl in
+            let a = ap (all_of (can_settle t)) p.rows_of ∙ sym (all_failed blank_volume (can_settle t) rows n i false (h.fitting t p) k (sym stays) refl) in
+            rw a;
       }
 
-      pub settle_step : not x.fits ≡ false → SettleLoop rate rows ms sizes n (i + 1) (set out i x.row)
-      settle_step f =
+      pub settle_step : (y : Volume) → x ≡ Some y → SettleLoop rate rows ms sizes n (i + 1) (set out i y)
+      settle_step y f =
           record {
-            size = length-set out i x.row ∙ h.size;
-            fitting = λ t p. all_step blank_volume (can_settle t) rows n i x.fits (h.fitting t p) k (fits_row t p) f;
-            stored = λ t p. fill_step_of (settled t) blank_volume rows rows n i out x.row (h.stored t p) k (made_row t p f);
+            size = length-set out i y ∙ h.size;
+            fitting = λ t p. all_step blank_volume (can_settle t) rows n i true (h.fitting t p) k (sym (settles_to t p y f _ refl).0) refl;
+            stored = λ t p. fill_step_of (settled t) blank_volume rows rows n i out y (h.stored t p) k (settles_to t p y f _ refl).1;
           }
 
 pub ruleset settles = (settle_step, settle_fails, settle_end, settle_size, settle_start, rows_length, rules)

@@ -25,7 +25,6 @@ use Rattle.epochs.specs.Gone.{due_number, entry_gone, token_gone}
 
 -- some row passes of those that are kept, where x is kept or not
 any_kept : {A : Type 0} (q : A → Bool) (b : Bool) (x : A) (l : List A) → any_of q (cond b (x ∷ l) l) ≡ ((b && q x) || any_of q l)
-unfolding any_of
 any_kept q true x l = refl
 any_kept q false x l = refl
 
@@ -37,7 +36,7 @@ number_or_none false n m = no_zero n
 module _ (clock : ℕ) where
   -- a number is one of these where a volume that is due has it
   pub gone_one : (vs : List Volume) (n : VolumeNo) → any_of (numbered n.0) (map (due_number clock) vs) ≡ is_one_of (keep (is_due clock) vs) n
-  unfolding is_one_of any_of keep due_number
+  unfolding is_one_of due_number
   gone_one [] n = refl
   gone_one (v ∷ vs) n =
       rw (number_or_none (is_due clock v) n.0 v.no.0, gone_one vs n) (sym (any_kept (is_volume n) (is_due clock v) v (keep (is_due clock) vs)))
@@ -61,18 +60,17 @@ module _ (clock : ℕ) (vs : List Volume) where
 
 -- where no row passes, none is kept and none is cleared
 keep_none : {A : Type 0} (p : A → Bool) (l : List A) → any_of p l ≡ false → keep p l ≡ []
-unfolding any_of keep
 keep_none p [] e = refl
 keep_none p (x ∷ xs) e = rw (or_left (p x) (any_of p xs) e, keep_none p xs (or_right (p x) (any_of p xs) e))
 
 cleared_none : {A : Type 0} (p : A → Bool) (z : A) (l : List A) → any_of p l ≡ false → cleared p z l ≡ l
-unfolding any_of cleared
+unfolding cleared
 cleared_none p z [] e = refl
 cleared_none p z (x ∷ xs) e = rw (or_left (p x) (any_of p xs) e, cleared_none p z xs (or_right (p x) (any_of p xs) e))
 
 -- where no volume is due, a collection changes nothing
 pub none_due : (p : Volume → Bool) (t : Tables) → any_of p t.volumes ≡ false → collect p t ≡ t
-unfolding collect drop_entries is_one_of any_of
+unfolding collect drop_entries is_one_of
 none_due p t e =
     let no-entry = at_none (entry_of_one []) t.entries fresh_entry (λ j h. refl) in
     let no-token = at_none (token_of_one []) t.tokens fresh_token (λ j h. and-false (used_token (get_or t.tokens j fresh_token))) in

@@ -1,6 +1,6 @@
 -- Document 01, "Rent": an advance in the machine's numbers, for every table. Where an epoch ends and a volume cannot be settled in them, the answer
 -- is 1 and nothing changes; on sound tables each can, and it is the rule's (WorkLaws). Assumes nothing.
-use Rattle.std.specs.Prelude.{◌≡◌, Bool, true, false, ◌&&◌, ◌||◌, cond, not, List, map, ℕ, ◌-◌, ◌^◌, leb, ltb}
+use Rattle.std.specs.Prelude.{◌≡◌, Bool, true, false, ◌&&◌, ◌||◌, cond, not, List, map, ℕ, ◌-◌, ◌^◌, leb, ltb, Option, Some, None}
 use Rattle.lists.specs.Lists.{all_of, any_of}
 use Rattle.rules.specs.declared.Volume.{Volume}
 use Rattle.rules.specs.declared.Tables.{Tables}
@@ -10,19 +10,15 @@ use Rattle.rules.specs.Tables.{used_volume, with_clock}
 use Rattle.rules.specs.Rent.{size_of, epoch_ends}
 use Rattle.rules.specs.Outcome.{refused, accepted}
 use Rattle.rules.specs.Advance.{settled, bad_block, advanced, is_due, relays_leave, at_epoch}
-use Rattle.rents.specs.declared.Rent.{Rent}
-use Rattle.rents.specs.declared.Rent.TheVariants.{Coins, PastLimits}
 use Rattle.rents.specs.Within.{raw_in, entry_volume, volume_rent}
-use Rattle.epochs.specs.declared.Settled.{Settled}
-use Rattle.epochs.specs.declared.SettledRow.{SettledRow}
 
 -- the most that the code's grace count holds
 abbrev pub most_grace : ℕ
 most_grace = 2 ^ 8 - 1
 
-abbrev pub is_worked_out : Rent → Bool
-is_worked_out (Coins coins) = true
-is_worked_out PastLimits = false
+abbrev pub is_worked_out : Option ℕ → Bool
+is_worked_out (Some coins) = true
+is_worked_out None = false
 
 -- the parts of the tables that the rents are worked out from: ms and sizes are the entries' volumes and sizes
 pub record RentParts (t : Tables) (rate : ℕ) (rows : List Volume) (ms sizes : List ℕ) : Type 0 where
@@ -38,27 +34,27 @@ can_settle t v = not (used_volume v) || (is_worked_out (volume_rent t v) && ltb 
 unfoldable pub can_settle_all : Tables → Bool
 can_settle_all t = all_of (can_settle t) t.volumes
 
--- a volume, and the volumes, at an epoch end; as they were where one cannot be settled
-unfoldable pub settled_row : Tables → Volume → SettledRow
-settled_row t v = record { fits = can_settle t v; row = cond (can_settle t v) (settled t v) v }
+-- a volume, and the volumes, at an epoch end; none where one cannot be settled
+unfoldable pub settled_row : Tables → Volume → Option Volume
+settled_row t v = cond (can_settle t v) (Some (settled t v)) None
 
 -- r is the volume at an epoch end, at this rate and of so many raw bytes
-pub record RowSettled (rate raw : ℕ) (v : Volume) (r : SettledRow) : Type 0 where
+pub record RowSettled (rate raw : ℕ) (v : Volume) (r : Option Volume) : Type 0 where
   pub told : (t : Tables) → rate ≡ t.rate → raw ≡ raw_in v.no t.entries → r ≡ settled_row t v
 
-unfoldable pub settled_rows : Tables → Settled
-settled_rows t = record { fits = can_settle_all t; rows = cond (can_settle_all t) (map (settled t) t.volumes) t.volumes }
+unfoldable pub settled_rows : Tables → Option (List Volume)
+settled_rows t = cond (can_settle_all t) (Some (map (settled t) t.volumes)) None
 
 -- r is the volumes at an epoch end, whatever tables have these parts
-pub record RowsSettled (rate : ℕ) (rows : List Volume) (ms sizes : List ℕ) (r : Settled) : Type 0 where
+pub record RowsSettled (rate : ℕ) (rows : List Volume) (ms sizes : List ℕ) (r : Option (List Volume)) : Type 0 where
   pub told : (t : Tables) → RentParts t rate rows ms sizes → r ≡ settled_rows t
 
 -- the volumes at a block: at an epoch end, or as they are where none is reached
-unfoldable pub settled_at : ℕ → Tables → Settled
-settled_at block t = cond (leb 1 (epoch_ends t.clock block)) (settled_rows t) (record { fits = true; rows = t.volumes })
+unfoldable pub settled_at : ℕ → Tables → Option (List Volume)
+settled_at block t = cond (leb 1 (epoch_ends t.clock block)) (settled_rows t) (Some t.volumes)
 
 -- r is that, whatever tables have these parts
-pub record AtSettled (block clock rate : ℕ) (rows : List Volume) (ms sizes : List ℕ) (r : Settled) : Type 0 where
+pub record AtSettled (block clock rate : ℕ) (rows : List Volume) (ms sizes : List ℕ) (r : Option (List Volume)) : Type 0 where
   pub told : (t : Tables) → t.clock ≡ clock → RentParts t rate rows ms sizes → r ≡ settled_at block t
 
 -- no epoch ends, or every volume can be settled

@@ -1,5 +1,6 @@
 // Advance.
 ghost use Rattle.std.specs.Prelude.{◌≡◌, map};
+ghost use Rattle.rules.specs.Numbers.{refusal_number};
 ghost use Rattle.rules.specs.declared.Tables.{Tables};
 ghost use Rattle.rules.specs.Rent.{size_of};
 ghost use Rattle.rents.specs.Within.{entry_volume};
@@ -11,18 +12,16 @@ use super::collect::collect_due;
 use super::due::any_due;
 use super::leave::relays_left;
 use super::settle::settle_all;
-use super::{AdvanceOutcome, PassOutcome, Settled};
+use super::{AdvanceOutcome, PassOutcome};
 use rents::{entry_sizes, entry_volumes};
-use rules::numbers::{BAD, CLOCK};
-use rules::{Relay, Tables, Volume};
+use rules::{Refusal, Relay, Tables, Volume};
 
 // A refusal: the parts are as they came, and no volume is collected.
-fn refuse(clock: u64, volumes: [Volume; 8], relays: [Relay; 32], n: u32) -> PassOutcome
-    ensures { result ≡ pass_refused clock volumes relays n }
+fn refuse(clock: u64, volumes: [Volume; 8], relays: [Relay; 32], n: Refusal) -> PassOutcome
+    ensures { result ≡ pass_refused clock volumes relays (refusal_number n) }
 {
-    let answer = rules::refusal(n);
     PassOutcome {
-        answer,
+        answer: rules::refusal(n),
         clock,
         volumes,
         relays,
@@ -38,11 +37,11 @@ fn settled(
     numbers: [u32; 64],
     sizes: [u64; 64],
     block: u64,
-) -> Settled
+) -> Option<[Volume; 8]>
     ensures { AtSettled block clock rate rows numbers sizes result }
 {
     if epoch_ends(clock, block) < 1 {
-        return Settled { fits: true, rows };
+        return Some(rows);
     }
     settle_all(rate, rows, numbers, sizes)
 }
@@ -61,21 +60,17 @@ pub fn pass_rows(
     ensures { (t : Tables) → t.clock ≡ clock → t.rate ≡ rate → t.volumes ≡ volumes → t.relays ≡ relays → owners ≡ map entry_volume t.entries → sizes ≡ map size_of t.entries → (on_pass t result ≡ pass_within block t) × (result.due ≡ due_within block t) }
 {
     if bad_block(clock, block) {
-        return refuse(clock, volumes, relays, CLOCK);
+        return refuse(clock, volumes, relays, Refusal::Clock);
     }
-    let after = settled(clock, rate, volumes, owners, sizes, block);
-    if !after.fits {
-        return refuse(clock, volumes, relays, BAD);
-    }
-    let rows = after.rows;
-    let left = relays_left(block, relays);
-    let answer = rules::success(block);
+    let Some(rows) = settled(clock, rate, volumes, owners, sizes, block) else {
+        return refuse(clock, volumes, relays, Refusal::Bad);
+    };
     let due = any_due(block, rows);
     PassOutcome {
-        answer,
+        answer: rules::success(block),
         clock: block,
         volumes: rows,
-        relays: left,
+        relays: relays_left(block, relays),
         due,
     }
 }
@@ -84,12 +79,9 @@ pub fn pass_rows(
 pub fn pass_on(t: Tables, block: u64) -> PassOutcome
     ensures { (on_pass t result ≡ pass_within block t) × (result.due ≡ due_within block t) }
 {
-    let volumes = t.volumes;
-    let relays = t.relays;
-    let entries = t.entries;
-    let owners = entry_volumes(entries);
-    let sizes = entry_sizes(entries);
-    pass_rows(t.clock, t.rate, volumes, relays, owners, sizes, block)
+    let owners = entry_volumes(t.entries);
+    let sizes = entry_sizes(t.entries);
+    pass_rows(t.clock, t.rate, t.volumes, t.relays, owners, sizes, block)
 }
 
 // The clock goes on to a block.
@@ -97,14 +89,14 @@ pub fn advance_on(t: Tables, block: u64) -> AdvanceOutcome
     ensures { on_advance t result ≡ advance_within block t }
 {
     let passed = pass_on(t, block);
-    let answer = passed.answer;
+    // Each array is in a variable of its own: the borrow check does not cover a field that is an array put straight into a literal.
     let volumes = passed.volumes;
     let relays = passed.relays;
     if !passed.due {
         let entries = t.entries;
         let tokens = t.tokens;
         return AdvanceOutcome {
-            answer,
+            answer: passed.answer,
             clock: passed.clock,
             volumes,
             entries,
@@ -113,16 +105,16 @@ pub fn advance_on(t: Tables, block: u64) -> AdvanceOutcome
         };
     }
     let left = collect_due(t, block, volumes, relays);
-    let kept = left.volumes;
+    let volumes = left.volumes;
     let entries = left.entries;
     let tokens = left.tokens;
-    let lighter = left.relays;
+    let relays = left.relays;
     AdvanceOutcome {
-        answer,
+        answer: passed.answer,
         clock: passed.clock,
-        volumes: kept,
+        volumes,
         entries,
         tokens,
-        relays: lighter,
+        relays,
     }
 }

@@ -7,23 +7,12 @@ ghost use Rattle.rules.specs.Advance.{bad_block};
 pub(crate) fn epoch_ends(old: u64, new: u64) -> u64
     ensures { result ≡ epoch_ends old new }
 {
-    let before = old / 3600;
-    let after = new / 3600;
-    if after < before {
-        return 0;
-    }
-    after - before
+    (new / 3600).saturating_sub(old / 3600)
 }
 
 // Below the clock, above 2^40, or over two epoch ends or more.
 pub(crate) fn bad_block(old: u64, new: u64) -> bool
     ensures { result ≡ bad_block old new }
 {
-    if new < old {
-        return true;
-    }
-    if 1099511627776 < new {
-        return true;
-    }
-    2 <= epoch_ends(old, new)
+    new < old || 1099511627776 < new || 2 <= epoch_ends(old, new)
 }

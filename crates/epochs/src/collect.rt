@@ -17,10 +17,8 @@ fn mark_gone(entries: [Entry; 64], gone: [u32; 8]) -> [bool; 64]
     ensures { result ≡ map (entry_gone gone) entries }
 {
     let mut marks = [false; 64];
-    let mut i: usize = 0;
-    while i < 64 {
+    for i in 0..64 {
         marks[i] = is_one_of(gone, entries[i].volume.0);
-        i += 1;
     }
     marks
 }
@@ -29,10 +27,7 @@ fn mark_gone(entries: [Entry; 64], gone: [u32; 8]) -> [bool; 64]
 fn is_token_gone(gone: [u32; 8], no: u32, volume: u32) -> bool
     ensures { result ≡ (given no && any_of (numbered volume) gone) }
 {
-    if no == 0 {
-        return false;
-    }
-    is_one_of(gone, volume)
+    no != 0 && is_one_of(gone, volume)
 }
 
 // The tokens without those of these volumes.
@@ -40,12 +35,10 @@ fn clear_tokens(rows: [Token; 32], gone: [u32; 8]) -> [Token; 32]
     ensures { result ≡ cleared (token_gone gone) fresh_token rows }
 {
     let mut left = rows;
-    let mut i: usize = 0;
-    while i < 32 {
+    for i in 0..32 {
         if is_token_gone(gone, rows[i].no.0, rows[i].volume.0) {
             left[i] = rules::fresh_token();
         }
-        i += 1;
     }
     left
 }
@@ -60,17 +53,12 @@ pub(crate) fn collect_due(
     ensures { on_collect t result ≡ collect (is_due block) (with_relays (with_volumes t volumes) relays) }
 {
     let gone = due_numbers(block, volumes);
-    let entries = t.entries;
-    let marks = mark_gone(entries, gone);
-    let rows = give_back(volumes, entries, marks, relays);
-    let left = clear_marked(entries, marks);
-    let before = t.tokens;
-    let tokens = clear_tokens(before, gone);
-    let kept = clear_due(block, volumes);
+    let marks = mark_gone(t.entries, gone);
+    let rows = give_back(volumes, t.entries, marks, relays);
     CollectOutcome {
-        volumes: kept,
-        entries: left,
-        tokens,
+        volumes: clear_due(block, volumes),
+        entries: clear_marked(t.entries, marks),
+        tokens: clear_tokens(t.tokens, gone),
         relays: rows,
     }
 }
@@ -79,7 +67,5 @@ pub(crate) fn collect_due(
 pub fn collect_on(t: Tables, block: u64) -> CollectOutcome
     ensures { on_collect t result ≡ collect (is_due block) t }
 {
-    let volumes = t.volumes;
-    let relays = t.relays;
-    collect_due(t, block, volumes, relays)
+    collect_due(t, block, t.volumes, t.relays)
 }

@@ -14,10 +14,7 @@ use rules::{Status, Volume};
 fn lies_back(clock: u64, deleted: u64) -> bool
     ensures { result ≡ leb (deleted + deleted_blocks) clock }
 {
-    if clock < 7200 {
-        return false;
-    }
-    deleted <= clock - 7200
+    7200 <= clock && deleted <= clock - 7200
 }
 
 fn is_due(clock: u64, v: Volume) -> bool
@@ -26,8 +23,7 @@ fn is_due(clock: u64, v: Volume) -> bool
     if v.no.0 == 0 {
         return false;
     }
-    let status = v.status;
-    match status {
+    match v.status {
         Status::Active => false,
         Status::Grace => 3 <= v.grace,
         Status::Deleted => lies_back(clock, v.deleted),
@@ -37,15 +33,7 @@ fn is_due(clock: u64, v: Volume) -> bool
 pub(crate) fn any_due(clock: u64, rows: [Volume; 8]) -> bool
     ensures { result ≡ any_of (is_due clock) rows }
 {
-    let mut i: usize = 0;
-    while i < 8 {
-        let v = rows[i];
-        if is_due(clock, v) {
-            return true;
-        }
-        i += 1;
-    }
-    false
+    rows.iter().any(|v| is_due(clock, *v))
 }
 
 // The number of a volume that is due, and 0 of any other row.
@@ -59,11 +47,8 @@ pub fn due_numbers(clock: u64, rows: [Volume; 8]) -> [u32; 8]
     ensures { result ≡ map (due_number clock) rows }
 {
     let mut gone = [0u32; 8];
-    let mut i: usize = 0;
-    while i < 8 {
-        let v = rows[i];
-        gone[i] = due_number(clock, v);
-        i += 1;
+    for i in 0..8 {
+        gone[i] = due_number(clock, rows[i]);
     }
     gone
 }
@@ -72,14 +57,7 @@ pub fn due_numbers(clock: u64, rows: [Volume; 8]) -> [u32; 8]
 pub fn is_one_of(gone: [u32; 8], n: u32) -> bool
     ensures { result ≡ any_of (numbered n) gone }
 {
-    let mut i: usize = 0;
-    while i < 8 {
-        if is_number(n, gone[i]) {
-            return true;
-        }
-        i += 1;
-    }
-    false
+    gone.iter().any(|x| is_number(n, *x))
 }
 
 // The volumes without those that are due.
@@ -87,13 +65,10 @@ pub fn clear_due(clock: u64, rows: [Volume; 8]) -> [Volume; 8]
     ensures { result ≡ cleared (is_due clock) fresh_volume rows }
 {
     let mut left = rows;
-    let mut i: usize = 0;
-    while i < 8 {
-        let v = rows[i];
-        if is_due(clock, v) {
+    for i in 0..8 {
+        if is_due(clock, rows[i]) {
             left[i] = rules::fresh_volume();
         }
-        i += 1;
     }
     left
 }

@@ -11,20 +11,14 @@ use rules::Relay;
 fn no_health(clock: u64, beat: u64) -> bool
     ensures { result ≡ eqb (full_health - (clock - beat)) 0 }
 {
-    if clock < beat {
-        return false;
-    }
-    100 <= clock - beat
+    100 <= clock.saturating_sub(beat)
 }
 
 // Whether a row of this number and heartbeat holds a relay at health 0.
 fn is_dead(clock: u64, no: u32, beat: u64) -> bool
     ensures { result ≡ (given no && eqb (full_health - (clock - beat)) 0) }
 {
-    if no == 0 {
-        return false;
-    }
-    no_health(clock, beat)
+    no != 0 && no_health(clock, beat)
 }
 
 // The relays without those at health 0.
@@ -32,12 +26,10 @@ pub(crate) fn relays_left(clock: u64, rows: [Relay; 32]) -> [Relay; 32]
     ensures { result ≡ cleared (is_dead clock) fresh_relay rows }
 {
     let mut left = rows;
-    let mut i: usize = 0;
-    while i < 32 {
+    for i in 0..32 {
         if is_dead(clock, rows[i].no.0, rows[i].beat) {
             left[i] = rules::fresh_relay();
         }
-        i += 1;
     }
     left
 }

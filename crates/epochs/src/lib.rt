@@ -45,17 +45,3 @@ pub struct CollectOutcome {
     pub tokens: [Token; 32],
     pub relays: [Relay; 32],
 }
-
-// A volume after an epoch end, or as it was where the machine's numbers cannot settle it.
-#[derive(Clone, Copy)]
-pub(crate) struct SettledRow {
-    pub fits: bool,
-    pub row: Volume,
-}
-
-// The volumes after an epoch end, or as they were where the machine's numbers cannot settle one of them.
-#[derive(Clone, Copy)]
-pub(crate) struct Settled {
-    pub fits: bool,
-    pub rows: [Volume; 8],
-}

@@ -10,22 +10,11 @@ use rules::{Status, Volume};
 fn with_standing(v: Volume, status: Status, grace: u8, balance: u64) -> Volume
     ensures { result ≡ with_balance (with_status v status grace v.deleted) balance }
 {
-    let no = v.no;
-    let owner = v.owner;
-    let name = v.name;
-    let cap = v.cap;
     Volume {
-        no,
-        owner,
-        name,
-        k: v.k,
-        m: v.m,
-        cap,
         status,
         balance,
-        version: v.version,
         grace,
-        deleted: v.deleted,
+        ..v
     }
 }
 
@@ -34,9 +23,8 @@ fn after_paid(rent: u64, v: Volume) -> Volume
     requires { rent ≤ v.balance }
     ensures { result ≡ after_rent rent v }
 {
-    let status = v.status;
     let left = v.balance - rent;
-    match status {
+    match v.status {
         Status::Active => with_standing(v, Status::Active, v.grace, left),
         Status::Grace => with_standing(v, Status::Active, 0, left),
         Status::Deleted => with_standing(v, Status::Deleted, v.grace, left),
@@ -48,8 +36,7 @@ fn after_short(rent: u64, v: Volume) -> Volume
     requires { (v.balance < rent) × (v.grace < most_grace) }
     ensures { result ≡ after_rent rent v }
 {
-    let status = v.status;
-    match status {
+    match v.status {
         Status::Active => with_standing(v, Status::Grace, 1, v.balance),
         Status::Grace => with_standing(v, Status::Grace, v.grace + 1, v.balance),
         Status::Deleted => with_standing(v, Status::Deleted, v.grace, 0),

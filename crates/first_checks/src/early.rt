@@ -1,59 +1,59 @@
-// The first checks of a commit, in the order of its row. A refusal is its number, and 0 stands for none.
+// The first checks of a commit, in the order of its row.
 ghost use Rattle.std.specs.Prelude.{◌≡◌};
 ghost use Rattle.lists.specs.Lists.{find};
+ghost use Rattle.rules.specs.Numbers.{answer_number};
 ghost use Rattle.rules.specs.Tables.{is_token};
 ghost use Rattle.first_checks.specs.Early.{token_fault, early_token, early_number};
 
-use lists::Found;
-use rows::{find_token, find_volume, in_window, is_active};
-use rules::numbers::{CONFLICT, NO_TOKEN, NO_VOLUME, SESSION, SPENT, STATE, WINDOW};
-use rules::{Session, Token, Volume};
+use rows::{find_row, in_window, is_active};
+use rules::{Refusal, Session, Token, Volume};
 
 // The checks of a commit's token: its window, then the volume's status and version.
-pub fn token_fault(clock: u64, v: Volume, version: u32, k: Token) -> u32
-    ensures { result ≡ token_fault clock v version k }
+#[tactic(auto, unfolding(crate::specs::Early::token_fault))]
+pub fn token_fault(clock: u64, v: Volume, version: u32, k: Token) -> Result<(), Refusal>
+    ensures { answer_number result ≡ token_fault clock v version k }
 {
-    let scope = k.scope;
-    if !in_window(clock, scope) {
-        return WINDOW;
+    if !in_window(clock, &k.scope) {
+        return Err(Refusal::Window);
     }
-    let status = v.status;
-    if !is_active(status) {
-        return STATE;
+    if !is_active(v.status) {
+        return Err(Refusal::State);
     }
     if v.version != version {
-        return CONFLICT;
+        return Err(Refusal::Conflict);
     }
     if 4294967295 <= v.version {
-        return SPENT;
+        return Err(Refusal::Spent);
     }
-    0
+    Ok(())
 }
 
 // The token, then its window and the volume's status and version.
-fn early_token(clock: u64, tokens: [Token; 32], s: Session, v: Volume) -> u32
-    ensures { result ≡ early_token clock s v (find (is_token s.token) tokens) }
+fn early_token(clock: u64, tokens: [Token; 32], s: Session, v: Volume) -> Result<(), Refusal>
+    ensures { answer_number result ≡ early_token clock s v (find (is_token s.token) tokens) }
 {
-    let n = s.token;
-    let Found::At(j) = find_token(tokens, n) else {
-        return NO_TOKEN;
+    let Some(j) = find_row(&tokens, s.token) else {
+        return Err(Refusal::NoToken);
     };
-    let k = tokens[j];
-    token_fault(clock, v, s.version, k)
+    token_fault(clock, v, s.version, tokens[j])
 }
 
-// The first checks of a commit, which read neither the entries nor the relays: the number of the refusal, or 0. A caller that asks
+// The first checks of a commit, which read neither the entries nor the relays: the refusal, if they refuse it. A caller that asks
 // first need not hand the other tables on for a commit that these refuse.
-pub fn early_refusal(clock: u64, volumes: [Volume; 8], tokens: [Token; 32], s: Session) -> u32
-    ensures { result ≡ early_number clock volumes tokens s }
+#[tactic(auto, unfolding(crate::specs::Early::early_number, crate::specs::Early::early_volume))]
+pub fn early_refusal(
+    clock: u64,
+    volumes: [Volume; 8],
+    tokens: [Token; 32],
+    s: Session,
+) -> Result<(), Refusal>
+    ensures { answer_number result ≡ early_number clock volumes tokens s }
 {
     if s.token.0 == 0 {
-        return SESSION;
+        return Err(Refusal::Session);
     }
-    let n = s.volume;
-    let Found::At(i) = find_volume(volumes, n) else {
-        return NO_VOLUME;
+    let Some(i) = find_row(&volumes, s.volume) else {
+        return Err(Refusal::NoVolume);
     };
-    let v = volumes[i];
-    early_token(clock, tokens, s, v)
+    early_token(clock, tokens, s, volumes[i])
 }

@@ -33,7 +33,7 @@ use Rattle.rules.specs.Calls.{advance, create, deposit, delete, undelete, grant,
 
 -- what a list of calls answers: the number and the value of each
 unfoldable pub told : List Call → Desk → List (ℕ × ℕ)
-unfolding step rule ask_rule work_rule sound sound_tables sound_relays sound_tokens sound_entries sound_volumes sound_session same_path sound_put sound_relay sound_token parent_there volume_there same_entry sound_entry sound_in sound_placement same_name sound_volume first_row all_of any_of count_if keep sum_of total no_clash same_bytes starts_with onto_first parts is_part is_path is_path_and_slash is_prefix is_name is_entry is_put owned_by volume_of token_of relay_of entry_of cleared scope_fits narrows chain descends too_few eligible_set bit_set ones in_order ranked taken holds_shard loaded shard_bytes bytes_on shards_on lightened sizes_in effective rent_for rent_now has_name create_in create_rule deposit_in deposit_rule delete_in delete_rule undelete_in undelete_rule drop_entries remove_entry remove_in remove_rule token_in new_token grant_in grant_rule attenuate_in attenuate_rule revoke_owner revoke_in revoke_rule look_entry look_in look_rule register_in register_rule heartbeat_in heartbeat_rule relays_leave after_rent settled settle is_due is_one_of collect at_epoch advanced advance_rule open_volume open_token open_rule stage_put stage_token stage_rule abandon_rule is_replaced is_kept sizes_after is_new_path passes_quotas passes_size passes_room below_rent place_all store_new store_at store_all charged committed commit_placed commit_limits commit_token commit_volume commit_rule
+unfolding step rule ask_rule work_rule sound sound_tables sound_relays sound_tokens sound_entries sound_volumes sound_session same_path sound_put sound_relay sound_token parent_there volume_there same_entry sound_entry sound_in sound_placement same_name sound_volume first_row count_if sum_of total no_clash onto_first parts is_part is_path is_path_and_slash is_prefix is_name is_entry is_put owned_by volume_of token_of relay_of entry_of cleared scope_fits narrows chain descends too_few eligible_set bit_set ones in_order ranked taken holds_shard loaded shard_bytes bytes_on shards_on lightened sizes_in effective rent_for rent_now has_name create_in create_rule deposit_in deposit_rule delete_in delete_rule undelete_in undelete_rule drop_entries remove_entry remove_in remove_rule token_in new_token grant_in grant_rule attenuate_in attenuate_rule revoke_owner revoke_in revoke_rule look_entry look_in look_rule register_in register_rule heartbeat_in heartbeat_rule relays_leave after_rent settled settle is_due is_one_of collect at_epoch advanced advance_rule open_volume open_token open_rule stage_put stage_token stage_rule abandon_rule is_replaced is_kept sizes_after is_new_path passes_quotas passes_size passes_room below_rent place_all store_new store_at store_all charged committed commit_placed commit_limits commit_token commit_volume commit_rule
 told [] d = []
 told (c ∷ cs) d = let o = step c d in (o.answer.number, o.answer.value) ∷ told cs o.desk
 

@@ -1,12 +1,12 @@
 -- Document 01, "Checked by hand (* = one table, one proof from the definitions)": its starred cases. The others are run by the programs, or stand
 -- in Cases.antt and Histories.antt. Assumes nothing.
-use Rattle.std.specs.Prelude.{◌≡◌, refl, List, [], ◌∷◌, ◌++◌, map, ℕ}
+use Rattle.std.specs.Prelude.{◌≡◌, refl, List, [], ◌∷◌, ◌++◌, map, ℕ, Result, Ok, Err}
 use Prim.Native.String.{String}
 use Rattle.lists.specs.Lists.{total, bit}
 use Rattle.lists.specs.Bytes.{bytes, same_bytes}
+use Rattle.amount.specs.declared.Cap.{Cap}
 use Rattle.amount.specs.declared.Cap.TheVariants.{Unlimited, Bytes}
-use Rattle.amount.specs.declared.ReadAmount.{ReadAmount}
-use Rattle.amount.specs.declared.ReadAmount.TheVariants.{Read, Refused}
+use Rattle.amount.specs.declared.error.AmountError.{AmountError}
 use Rattle.amount.specs.Digits.{leading, following, number_after}
 use Rattle.amount.specs.Amount.{read_number, amount_of, parse, after_whole, unit_after, unit_named, counted}
 use Rattle.rules.specs.declared.RelayNo.{RelayNo}
@@ -23,10 +23,10 @@ pub record Case : Type 0 where
   pub stated : List ℕ
 
 -- a typed text: the answer's number, then the bytes of a count that is read
-abbrev read_bytes : ReadAmount → List ℕ
-read_bytes (Read Unlimited) = []
-read_bytes (Read (Bytes n)) = n ∷ []
-read_bytes (Refused n) = []
+abbrev read_bytes : Result Cap AmountError → List ℕ
+read_bytes (Ok Unlimited) = []
+read_bytes (Ok (Bytes n)) = n ∷ []
+read_bytes (Err e) = []
 
 abbrev amount : String → List ℕ
 amount text = read_number (amount_of (bytes text)) ∷ read_bytes (amount_of (bytes text))
@@ -90,5 +90,5 @@ abbrev pub stated_of : Case → List ℕ
 stated_of c = c.stated
 
 pub starred : map computed_of cases ≡ map stated_of cases
-unfolding amount_of parse after_whole unit_after unit_named counted same_bytes leading following number_after effective total relay six taken ranked in_order history
+unfolding amount_of parse after_whole unit_after unit_named counted leading following number_after effective total relay six taken ranked in_order history
 starred = refl

@@ -1,17 +1,16 @@
 -- The law of a journal's records: one record, then the records of the rest. Assumes nothing.
-use Rattle.std.specs.Prelude.{◌≡◌, refl, Bool, true, false, cond, List, [], ◌∷◌, ◌++◌, ℕ, zero, suc, ◌+◌, ◌-◌, ◌≤◌, leb, ltb, length, take, drop}
+use Rattle.std.specs.Prelude.{◌≡◌, refl, Bool, true, false, cond, List, [], ◌∷◌, ◌++◌, ℕ, zero, suc, ◌+◌, ◌-◌, ◌≤◌, leb, ltb, length, take, drop, Option, None, Some, Err, Ok, Result}
 use Rattle.std.proofs.Common.{sym, ◌∙◌, ap, append_assoc, arith, length-drop, length-append, take_at, drop_at, leb-true}
-use Rattle.std.proofs.Math.Option.{Option, none, some}
 use Rattle.std.proofs.Math.Pow.{are_bytes}
+use Rattle.journal.specs.declared.Record.{Record}
+use Rattle.journal.specs.declared.errors.JournalError.{JournalError}
+use Rattle.journal.specs.declared.errors.JournalError.TheVariants as error
 use Rattle.journal.specs.Numbers.{bytes_of}
-use Rattle.journal.specs.declared.Start.TheVariants.{Fault}
-use Rattle.journal.specs.declared.Reading.{Reading}
-use Rattle.journal.specs.declared.Reading.TheVariants.{Fits, Refused}
 use Rattle.journal.specs.Fields.{Decoded, nothing, found, part, as_number, as_text, decode_number, decode_text, decode, encode, text}
 use Rattle.journal.proofs.FieldLaws.{on_found_found, cond_found, bytes_take, bytes_drop, decode_taken}
 use Rattle.journal.proofs.NumberLaws.{length_bytes_of}
 use Rattle.journal.specs.Records.{Version, version_numbered, Parsed, unfit, parsed, parse, read_record}
-use Rattle.journal.specs.Places.{RECORD, reading_of, read_at, call_at}
+use Rattle.journal.specs.Places.{reading_of, read_at, call_at}
 use Rattle.journal.proofs.PlaceLaws.{reading_is_call}
 use Rattle.journal.specs.Journal.{journal_most, TOO_LARGE, Contents, framed, stopped, on_frame, on_call, records_in, records, on_version, versioned, contents, version_start, first_byte, start_of, on_reading, on_body, next_in, after_start, after_next}
 
@@ -64,14 +63,14 @@ records_step v b l =
 
 -- The code's two functions: the start, and what stands next, give what the journal holds.
 version_start_lem : (o : Option Version) (b : ℕ) (l : List ℕ) → on_version o l ≡ after_start (version_start o) (b ∷ l)
-version_start_lem none b l = refl
-version_start_lem (some v) b l = refl
+version_start_lem None b l = refl
+version_start_lem (Some v) b l = refl
 
 pub start_contents : (l : List ℕ) → contents l ≡ after_start (start_of l) l
 unfolding contents start_of
 start_contents l = by (ltb journal_most (length l)) l
   where
-    by : (t : Bool) (m : List ℕ) → cond t (stopped TOO_LARGE) (versioned m) ≡ after_start (cond t (Fault TOO_LARGE) (first_byte m)) m
+    by : (t : Bool) (m : List ℕ) → cond t (stopped TOO_LARGE) (versioned m) ≡ after_start (cond t (Err error.TooLarge) (first_byte m)) m
     by true m = refl
     by false [] = refl
     by false (b ∷ m) = version_start_lem (version_numbered b) b m
@@ -100,19 +99,19 @@ module _ (l body rest : List ℕ) (h : are_bytes l ≡ true) (e : framed l ≡ f
   body_bytes = rw framed_body at (bytes_take (length body) (drop 2 l) (bytes_drop 2 l h))
 
 -- a reading that is refused is 27
-refused_record : (v : Version) (x : Parsed v) (n : ℕ) → reading_of v x ≡ Refused n → n ≡ RECORD
+refused_record : (v : Version) (x : Parsed v) (n : JournalError) → reading_of v x ≡ Err n → n ≡ error.Record
 refused_record v unfit n e = cc
 refused_record v (parsed k x) n e = absurd (let z : ◌≡◌ {A = ℕ} 0 1 = cc in omega arith)
 
 -- the call of a record that was read, or 27
-read_next : (v : Version) (l body rest : List ℕ) → are_bytes l ≡ true → framed l ≡ found body rest → (o : Reading) → read_at v body ≡ o
+read_next : (v : Version) (l body rest : List ℕ) → are_bytes l ≡ true → framed l ≡ found body rest → (o : Result Record JournalError) → read_at v body ≡ o
     → on_call (read_record v body) (records v rest) ≡ after_next v l (on_reading body o)
 unfolding read_at
-read_next v l body rest h e (Refused n) r =
-    let none_read : none ≡ read_record v body = rw r at (reading_is_call v body (body_bytes l body rest h e)) in
+read_next v l body rest h e (Err n) r =
+    let none_read : None ≡ read_record v body = rw r at (reading_is_call v body (body_bytes l body rest h e)) in
     rw (← none_read, refused_record v (parse v body) n r)
-read_next v l body rest h e (Fits x) r =
-    let read : some (call_at v x body) ≡ read_record v body = rw r at (reading_is_call v body (body_bytes l body rest h e)) in
+read_next v l body rest h e (Ok x) r =
+    let read : Some (call_at v x body) ≡ read_record v body = rw r at (reading_is_call v body (body_bytes l body rest h e)) in
     let len : 2 + length body - 2 ≡ length body = omega arith in
     rw (← read, len, framed_body l body rest h e, framed_rest l body rest h e)
 

@@ -1,5 +1,4 @@
 pub mod ByteLaws
-pub mod TableLaws
 pub mod StepLaws
 pub mod FieldReads
 pub mod ReadLaws

@@ -1,7 +1,6 @@
 -- The laws of places: the call that the reader's answer stands for is the call of the record's bytes. Assumes nothing.
-use Rattle.std.specs.Prelude.{◌≡◌, refl, true, List, [], ◌∷◌, ◌++◌, ℕ, ◌+◌, length, drop, replicate}
+use Rattle.std.specs.Prelude.{◌≡◌, refl, true, List, [], ◌∷◌, ◌++◌, ℕ, ◌+◌, length, drop, replicate, Some}
 use Rattle.std.proofs.Common.{sym, ◌∙◌, ap, append_assoc, append-nil, take_at, drop_at, drop-drop, eqb-true}
-use Rattle.std.proofs.Math.Option.{some}
 use Rattle.std.proofs.Math.Pow.{are_bytes}
 use Rattle.journal.specs.declared.Kind.{Kind}
 use Rattle.journal.specs.declared.Kind.TheVariants.{Advance, Create, Deposit, Delete, Undelete, Grant, Attenuate, Revoke, Open, Stage, Commit, Abandon, Remove, Look, Register, Heartbeat}
@@ -49,11 +48,6 @@ placed v its.Mode at x r l m e h = refl
 placed v its.Cap at x r l m e h = refl
 placed v its.From at x r l m e h = refl
 placed v its.Until at x r l m e h = refl
-placed v its.None at x r l m e h = sym (empty x (eqb-true _ _ h))
-  where
-    empty : (b : List ℕ) → length b ≡ 0 → b ≡ []
-    empty [] h = refl
-    empty (a ∷ b) h = cc
 
 -- each field's value, placed by itself
 abbrev each_at : (v : Version) (fs : List Field) → ℕ → ValuesOf (forms_of v fs) → Record → List ℕ → ValuesOf (forms_of v fs)
@@ -99,7 +93,7 @@ placed_call v l unfit h e = refl
 placed_call v l (parsed k x) h e =
     let g = parse_given v l k x h e in
     let d : drop 1 l ≡ encode_all (forms_of v (fields_of v k)) x ++ [] = ap (drop 1) (sym g.same) ∙ sym (append-nil _) in
-    ap some (apart v k x l ∙ ap (call_of v k) (each_placed v (fields_of v k) 1 x (blank k) l [] d g.fit))
+    ap Some (apart v k x l ∙ ap (call_of v k) (each_placed v (fields_of v k) 1 x (blank k) l [] d g.fit))
 
 -- the reader's answer to a list of bytes stands for the call of those bytes
 pub reading_is_call : (v : Version) (l : List ℕ) → are_bytes l ≡ true → call_read v (read_at v l) l ≡ read_record v l

@@ -1,8 +1,7 @@
 -- The laws of records: a kind and its values and the call that they stand for are the same thing, and so are they and the bytes. The kinds enter only
 -- by their lists of fields and the table of calls. Assumes nothing.
-use Rattle.std.specs.Prelude.{◌≡◌, refl, Bool, true, false, cond, List, [], ◌∷◌, ℕ, eqb, ltb}
+use Rattle.std.specs.Prelude.{◌≡◌, refl, Bool, true, false, cond, List, [], ◌∷◌, ℕ, eqb, ltb, Option, None, Some}
 use Rattle.std.proofs.Common.{sym, ◌∙◌, ap, subst, append-nil, arith, eqb-true}
-use Rattle.std.proofs.Math.Option.{Option, none, some}
 use Rattle.std.proofs.Math.Pow.{are_bytes}
 use Rattle.rules.specs.Calls.{advance, create, deposit, delete, undelete, grant, attenuate, revoke, remove, look, register, heartbeat, opens, stages, commits, abandons, Call, ask, on_slot}
 use Rattle.journal.specs.declared.Kind.{Kind}
@@ -61,7 +60,7 @@ values_of_call v Heartbeat x = refl
 -- ---- kinds and their numbers
 
 -- the kinds have different numbers, and every version so far has them all
-number_among : (k : Kind) → kind_among (kind_number k) all_kinds ≡ some k
+number_among : (k : Kind) → kind_among (kind_number k) all_kinds ≡ Some k
 unfolding kind_among
 number_among Advance = refl
 number_among Create = refl
@@ -80,22 +79,22 @@ number_among Look = refl
 number_among Register = refl
 number_among Heartbeat = refl
 
-pub number_of_kind : (v : Version) (k : Kind) → kind_numbered v (kind_number k) ≡ some k
+pub number_of_kind : (v : Version) (k : Kind) → kind_numbered v (kind_number k) ≡ Some k
 number_of_kind v k = ap (kind_among (kind_number k)) (kinds_all v) ∙ number_among k
 
 -- a number names the same kind in every version
-pub one_kind : (v w : Version) (n : ℕ) (j k : Kind) → kind_numbered v n ≡ some j → kind_numbered w n ≡ some k → j ≡ k
+pub one_kind : (v w : Version) (n : ℕ) (j k : Kind) → kind_numbered v n ≡ Some j → kind_numbered w n ≡ Some k → j ≡ k
 one_kind v w n j k e f =
     let same : kind_numbered v n ≡ kind_numbered w n = ap (kind_among n) (kinds_all v) ∙ sym (ap (kind_among n) (kinds_all w)) in
-    let z : some j ≡ some k = sym e ∙ same ∙ f in
+    let z : Some j ≡ Some k = sym e ∙ same ∙ f in
     cc
 
-pub kind_of_number : (n : ℕ) (ks : List Kind) (k : Kind) → kind_among n ks ≡ some k → n ≡ kind_number k
+pub kind_of_number : (n : ℕ) (ks : List Kind) (k : Kind) → kind_among n ks ≡ Some k → n ≡ kind_number k
 unfolding kind_among
 kind_of_number n [] k e = cc
 kind_of_number n (j ∷ ks) k e = go (eqb n (kind_number j)) refl e (kind_of_number n ks k)
   where
-    go : (t : Bool) → eqb n (kind_number j) ≡ t → cond t (some j) (kind_among n ks) ≡ some k → (kind_among n ks ≡ some k → n ≡ kind_number k) → n ≡ kind_number k
+    go : (t : Bool) → eqb n (kind_number j) ≡ t → cond t (Some j) (kind_among n ks) ≡ Some k → (kind_among n ks ≡ Some k → n ≡ kind_number k) → n ≡ kind_number k
     go true t e r = let ej : j ≡ k = cc in rw (← ej) (eqb-true _ _ t)
     go false t e r = r e
 
@@ -140,8 +139,8 @@ kind_given v n l j y en t =
 
 parse_kind_given : (v : Version) (n : ℕ) (l : List ℕ) (o : Option Kind) (k : Kind) (x : Values v k) → are_bytes l ≡ true → kind_numbered v n ≡ o
     → parse_kind v o l ≡ parsed k x → Given v (n ∷ l) k x
-parse_kind_given v n l none k x h en e = let z : ◌≡◌ {A = ℕ} 0 1 = cc in absurd (omega arith)
-parse_kind_given v n l (some j) k x h en e =
+parse_kind_given v n l None k x h en e = let z : ◌≡◌ {A = ℕ} 0 1 = cc in absurd (omega arith)
+parse_kind_given v n l (Some j) k x h en e =
     let w = whole_given v j k (decode_all (forms_of v (fields_of v j)) l) x e in
     let t = decode_taken_all (forms_of v (fields_of v j)) l w.0 [] h w.1 in
     let p : ◌≡◌ {A = Sorted v} (j, w.0) (k, x) = ap (sorted_in v (j, w.0)) w.2 in
@@ -153,7 +152,7 @@ parse_given v [] k x h e = let z : ◌≡◌ {A = ℕ} 0 1 = cc in absurd (omega
 parse_given v (n ∷ l) k x h e = parse_kind_given v n l (kind_numbered v n) k x (and_right (ltb n 256) (are_bytes l) h) refl e
 
 -- a call that was read: the kind and values that it was made of
-pub call_parsed_lem : (v : Version) (p : Parsed v) (c : Call) → call_parsed v p ≡ some c → p ≡ parsed (kind_of c) (values_of v c)
+pub call_parsed_lem : (v : Version) (p : Parsed v) (c : Call) → call_parsed v p ≡ Some c → p ≡ parsed (kind_of c) (values_of v c)
 call_parsed_lem v unfit c e = let z : ◌≡◌ {A = ℕ} 0 1 = cc in absurd (omega arith)
 call_parsed_lem v (parsed k x) c e =
     let ec : call_of v k x ≡ c = cc in

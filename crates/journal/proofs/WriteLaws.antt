@@ -1,7 +1,6 @@
 -- The laws of the writer: a record that it is given stands for one call, and what it writes of it reads as that call. Assumes nothing.
-use Rattle.std.specs.Prelude.{◌≡◌, refl, true, ◌&&◌, List, [], ◌∷◌, ◌++◌, ℕ, ◌*◌, ◌^◌, ◌<◌, ◌≤◌, leb, ltb, length}
+use Rattle.std.specs.Prelude.{◌≡◌, refl, true, ◌&&◌, List, [], ◌∷◌, ◌++◌, ℕ, ◌*◌, ◌^◌, ◌<◌, ◌≤◌, leb, ltb, length, Some}
 use Rattle.std.proofs.Common.{ap, arith, lit≤, length-append, lt-ltb, le-leb, leb-true, eq-eqb}
-use Rattle.std.proofs.Math.Option.{some}
 use Rattle.amount.specs.declared.Cap.{Cap}
 use Rattle.amount.specs.declared.Cap.TheVariants.{Unlimited, Bytes}
 use Rattle.journal.specs.declared.Kind.{Kind}
@@ -53,7 +52,6 @@ given_fits v its.Mode d t s g = refl
 given_fits v its.Cap d t s g = s.cap
 given_fits v its.From d t s g = lt-ltb _ _ s.«from»
 given_fits v its.Until d t s g = lt-ltb _ _ s.until
-given_fits v its.None d t s g = refl
 
 pub all_fit : (v : Version) (fs : List Field) (d : Fields) (t : List ℕ) → Sized d → givable_all v fs d t ≡ true → fits_all (forms_of v fs) (values_in v fs d t) ≡ true
 unfolding givable_all fits_all
@@ -79,7 +77,6 @@ field_short v its.Mode d t s g = rw (length_bytes_of 1 _) (lit≤ tt)
 field_short v its.Cap d t s g = cap_short d.cap
 field_short v its.From d t s g = omega (arith, length_bytes_of 8 d.«from»)
 field_short v its.Until d t s g = omega (arith, length_bytes_of 8 d.until)
-field_short v its.None d t s g = omega arith
 
 all_short : (v : Version) (fs : List Field) (d : Fields) (t : List ℕ) → Sized d → givable_all v fs d t ≡ true
     → length (encode_all (forms_of v fs) (values_in v fs d t)) ≤ 1026 * length fs
@@ -90,7 +87,7 @@ all_short v (f ∷ fs) d t s g =
     let bs = encode_all (forms_of v fs) (values_in v fs d t) in
     omega (arith, length-append b bs, field_short v f d t s (and_left (givable v f d t) _ g), all_short v fs d t s (and_right (givable v f d t) _ g))
 
-few_fields : (v : Version) (k : Kind) → length (fields_of v k) ≤ 7
+pub few_fields : (v : Version) (k : Kind) → length (fields_of v k) ≤ 7
 few_fields v Advance = lit≤ tt
 few_fields v Create = lit≤ tt
 few_fields v Deposit = lit≤ tt
@@ -121,7 +118,7 @@ frame_found v k d t rest s g =
 
 -- and reads as its call
 pub record_read : (v : Version) (k : Kind) (d : Fields) (t : List ℕ) → Sized d → givable_all v (fields_of v k) d t ≡ true
-    → read_record v (record_bytes v k (values_in v (fields_of v k) d t)) ≡ some (call_of v k (values_in v (fields_of v k) d t))
+    → read_record v (record_bytes v k (values_in v (fields_of v k) d t)) ≡ Some (call_of v k (values_in v (fields_of v k) d t))
 unfolding read_record
 record_read v k d t s g = ap (call_parsed v) (parse_record v k (values_in v (fields_of v k) d t) (all_fit v (fields_of v k) d t s g))
 

@@ -5,6 +5,5 @@ pub mod VersionLaws
 pub mod LongerTexts
 pub mod Places
 pub mod Table
-pub mod TableLaws
 pub mod Journal
 pub mod Writes

@@ -1,7 +1,6 @@
 -- What the record reader answers: the record with its numbers, and where in its bytes its account, text and hash begin. `call_at` says which call such
 -- a record stands for. Assumes nothing.
-use Rattle.std.specs.Prelude.{List, [], ◌∷◌, ◌++◌, ℕ, ◌+◌, length, take, drop, replicate}
-use Rattle.std.proofs.Math.Option.{Option, none, some}
+use Rattle.std.specs.Prelude.{List, [], ◌∷◌, ◌++◌, ℕ, ◌+◌, length, take, drop, replicate, Option, None, Some, Result, Ok, Err}
 use Rattle.amount.specs.declared.Cap.TheVariants.{Unlimited}
 use Rattle.rules.specs.declared.Mode.TheVariants.{Read}
 use Rattle.rules.specs.Calls.{Call}
@@ -9,8 +8,8 @@ use Rattle.journal.specs.declared.Kind.{Kind}
 use Rattle.journal.specs.declared.Field.{Field}
 use Rattle.journal.specs.declared.Field.TheVariants as its
 use Rattle.journal.specs.declared.Record.{Record}
-use Rattle.journal.specs.declared.Reading.{Reading}
-use Rattle.journal.specs.declared.Reading.TheVariants.{Fits, Refused}
+use Rattle.journal.specs.declared.errors.JournalError.{JournalError}
+use Rattle.journal.specs.declared.errors.JournalError.TheVariants as error
 use Rattle.journal.specs.Fields.{ValueOf, ValuesOf, encode}
 use Rattle.journal.specs.Records.{Version, text_width, format_of, forms_of, fields_of, call_of, Parsed, unfit, parsed, parse}
 
@@ -38,19 +37,18 @@ place v its.Mode at x r = record { kind = r.kind; account = r.account; no = r.no
 place v its.Cap at x r = record { kind = r.kind; account = r.account; no = r.no; slot = r.slot; k = r.k; m = r.m; text = r.text; text_len = r.text_len; amount = r.amount; hash = r.hash; mode = r.mode; cap = x; «from» = r.«from»; until = r.until }
 place v its.From at x r = record { kind = r.kind; account = r.account; no = r.no; slot = r.slot; k = r.k; m = r.m; text = r.text; text_len = r.text_len; amount = r.amount; hash = r.hash; mode = r.mode; cap = r.cap; «from» = x; until = r.until }
 place v its.Until at x r = record { kind = r.kind; account = r.account; no = r.no; slot = r.slot; k = r.k; m = r.m; text = r.text; text_len = r.text_len; amount = r.amount; hash = r.hash; mode = r.mode; cap = r.cap; «from» = r.«from»; until = x }
-place v its.None at x r = r
 
 -- a list of fields, whose bytes begin at the place and follow one another
 abbrev pub place_all : (v : Version) (fs : List Field) → ℕ → ValuesOf (forms_of v fs) → Record → Record
 place_all v [] at x r = r
 place_all v (f ∷ fs) at x r = place_all v fs (at + length (encode (format_of v f) x.0)) x.1 (place v f at x.0 r)
 
-abbrev pub reading_of : (v : Version) → Parsed v → Reading
-reading_of v unfit = Refused RECORD
-reading_of v (parsed k x) = Fits (place_all v (fields_of v k) 1 x (blank k))
+abbrev pub reading_of : (v : Version) → Parsed v → Result Record JournalError
+reading_of v unfit = Err error.Record
+reading_of v (parsed k x) = Ok (place_all v (fields_of v k) 1 x (blank k))
 
 -- what the reader answers to a record's bytes; the fields begin after the kind
-unfoldable pub read_at : Version → List ℕ → Reading
+unfoldable pub read_at : Version → List ℕ → Result Record JournalError
 read_at v l = reading_of v (parse v l)
 
 -- the n bytes from a place on
@@ -85,7 +83,6 @@ value_at v its.Mode r l = r.mode
 value_at v its.Cap r l = r.cap
 value_at v its.From r l = r.«from»
 value_at v its.Until r l = r.until
-value_at v its.None r l = []
 
 abbrev pub values_at : (v : Version) (fs : List Field) → Record → List ℕ → ValuesOf (forms_of v fs)
 values_at v [] r l = tt
@@ -96,6 +93,6 @@ abbrev pub call_at : Version → Record → List ℕ → Call
 call_at v r l = call_of v r.kind (values_at v (fields_of v r.kind) r l)
 
 -- the call of an answer, or nothing of a refusal
-abbrev pub call_read : Version → Reading → List ℕ → Option Call
-call_read v (Refused n) l = none
-call_read v (Fits r) l = some (call_at v r l)
+abbrev pub call_read : Version → Result Record JournalError → List ℕ → Option Call
+call_read v (Err e) l = None
+call_read v (Ok r) l = Some (call_at v r l)

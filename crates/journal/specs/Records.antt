@@ -1,6 +1,5 @@
 -- Document 01, "The calls" and "Journal": the kinds of records with their fields, and the calls that records stand for. Assumes nothing.
-use Rattle.std.specs.Prelude.{Bool, cond, List, [], ◌∷◌, map, ℕ, eqb}
-use Rattle.std.proofs.Math.Option.{Option, none, some}
+use Rattle.std.specs.Prelude.{Bool, cond, List, [], ◌∷◌, map, ℕ, eqb, Option, None, Some}
 use Rattle.rules.specs.Scope.{ScopeArg}
 use Rattle.rules.specs.Calls.{Ask, advance, create, deposit, delete, undelete, grant, attenuate, revoke, remove, look, register, heartbeat, Work, opens, stages, commits, abandons, Call, ask, on_slot}
 pub use Rattle.journal.specs.declared.Version.{Version}
@@ -20,7 +19,7 @@ v02 = V02
 
 -- the version of a byte: "Missing or other version byte" names none
 abbrev pub version_numbered : ℕ → Option Version
-version_numbered n = cond (eqb n 0x01) (some v01) (cond (eqb n 0x02) (some v02) none)
+version_numbered n = cond (eqb n 0x01) (Some v01) (cond (eqb n 0x02) (Some v02) None)
 
 -- "Text is one length byte and the bytes"; W1: "Journal texts then need a two-byte length"
 abbrev pub text_width : Version → ℕ
@@ -46,7 +45,6 @@ format_of v its.Mode = mode
 format_of v its.Cap = cap
 format_of v its.From = number 8
 format_of v its.Until = number 8
-format_of v its.None = bytes 0
 
 -- the fields under the table's words
 abbrev pub account : Field
@@ -150,8 +148,8 @@ kinds V02 = all_kinds
 
 -- the kind of a number among some kinds
 unfoldable pub kind_among : ℕ → List Kind → Option Kind
-kind_among n [] = none
-kind_among n (k ∷ ks) = cond (eqb n (kind_number k)) (some k) (kind_among n ks)
+kind_among n [] = None
+kind_among n (k ∷ ks) = cond (eqb n (kind_number k)) (Some k) (kind_among n ks)
 
 abbrev pub kind_numbered : Version → ℕ → Option Kind
 kind_numbered v n = kind_among n (kinds v)
@@ -252,8 +250,8 @@ whole v k (found x []) = parsed k x
 whole v k (found x (b ∷ l)) = unfit
 
 abbrev pub parse_kind : (v : Version) → Option Kind → List ℕ → Parsed v
-parse_kind v none l = unfit
-parse_kind v (some k) l = whole v k (decode_all (forms_of v (fields_of v k)) l)
+parse_kind v None l = unfit
+parse_kind v (Some k) l = whole v k (decode_all (forms_of v (fields_of v k)) l)
 
 -- "then kind and fields"
 unfoldable pub parse : (v : Version) → List ℕ → Parsed v
@@ -261,8 +259,8 @@ parse v [] = unfit
 parse v (n ∷ l) = parse_kind v (kind_numbered v n) l
 
 abbrev pub call_parsed : (v : Version) → Parsed v → Option Call
-call_parsed v unfit = none
-call_parsed v (parsed k x) = some (call_of v k x)
+call_parsed v unfit = None
+call_parsed v (parsed k x) = Some (call_of v k x)
 
 -- the call that a record's bytes stand for; nothing is "Cut or unfitting record, unknown kind, cap byte or mode: 27"
 unfoldable pub read_record : Version → List ℕ → Option Call

@@ -1,7 +1,6 @@
 -- Document 01, "Journal": "The record writer refuses a record the reader can't give (an unknown kind, a mode above 2, a text above 255 bytes) with 1,
 -- then a short buffer with 12." 02, W1: "A version 02 text has at most 1,024 bytes; a longer one is .. 1 when written." Assumes nothing.
-use Rattle.std.specs.Prelude.{Bool, true, ◌&&◌, cond, List, [], ◌∷◌, ◌++◌, ℕ, ◌+◌, ◌≤◌, eqb, leb, length}
-use Rattle.std.proofs.Math.Option.{Option, none, some}
+use Rattle.std.specs.Prelude.{Bool, true, ◌&&◌, cond, List, [], ◌∷◌, ◌++◌, ℕ, ◌+◌, ◌≤◌, eqb, leb, length, Option, None, Some, Result, Ok, Err}
 pub use Rattle.lists.specs.Bytes.{over}
 use Rattle.rules.specs.declared.Mode.{Mode}
 use Rattle.rules.specs.declared.Mode.TheVariants as right
@@ -10,9 +9,8 @@ use Rattle.journal.specs.declared.Kind.{Kind}
 use Rattle.journal.specs.declared.Field.{Field}
 use Rattle.journal.specs.declared.Field.TheVariants as its
 use Rattle.journal.specs.declared.Fields.{Fields}
-use Rattle.journal.specs.declared.Written.{Written}
-use Rattle.journal.specs.declared.Size.{Size}
-use Rattle.journal.specs.declared.Size.TheVariants.{Bytes, Bad}
+use Rattle.journal.specs.declared.errors.WriteError.{WriteError}
+use Rattle.journal.specs.declared.errors.WriteError.TheVariants as error
 use Rattle.journal.specs.Numbers.{bytes_of}
 use Rattle.journal.specs.Fields.{text, ValueOf, ValuesOf, encode}
 use Rattle.journal.specs.Records.{Version, version_numbered, text_width, text_most, format_of, forms_of, fields_of, kind_numbered, record_bytes}
@@ -35,7 +33,6 @@ value_in v its.Mode d t = mode_in d.mode
 value_in v its.Cap d t = d.cap
 value_in v its.From d t = d.«from»
 value_in v its.Until d t = d.until
-value_in v its.None d t = []
 
 abbrev pub values_in : (v : Version) (fs : List Field) → Fields → List ℕ → ValuesOf (forms_of v fs)
 values_in v [] d t = tt
@@ -55,7 +52,6 @@ givable v its.Mode d t = leb d.mode 2
 givable v its.Cap d t = true
 givable v its.From d t = true
 givable v its.Until d t = true
-givable v its.None d t = true
 
 unfoldable pub givable_all : Version → List Field → Fields → List ℕ → Bool
 givable_all v [] d t = true
@@ -66,8 +62,8 @@ abbrev pub in_frame : List ℕ → List ℕ
 in_frame b = encode (text 2 65535) b
 
 abbrev pub kind_in : Version → Option Kind → Fields → List ℕ → Option (List ℕ)
-kind_in v none d t = none
-kind_in v (some k) d t = cond (givable_all v (fields_of v k) d t) (some (in_frame (record_bytes v k (values_in v (fields_of v k) d t)))) none
+kind_in v None d t = None
+kind_in v (Some k) d t = cond (givable_all v (fields_of v k) d t) (Some (in_frame (record_bytes v k (values_in v (fields_of v k) d t)))) None
 
 -- the record with its length, or nothing: an unknown kind, or a field that the reader cannot give
 unfoldable pub record_in : Version → Fields → List ℕ → Option (List ℕ)
@@ -75,21 +71,26 @@ record_in v d t = kind_in v (kind_numbered v d.kind) d t
 
 -- the record writer is told the number of the version (docs/DECISIONS.md): one that there is not is 1, as a record that the reader cannot give
 abbrev pub record_for : Option Version → Fields → List ℕ → Option (List ℕ)
-record_for none d t = none
-record_for (some v) d t = record_in v d t
+record_for None d t = None
+record_for (Some v) d t = record_in v d t
 
 abbrev pub record_of : ℕ → Fields → List ℕ → Option (List ℕ)
 record_of n d t = record_for (version_numbered n) d t
 
 -- what the writer answers: how many bytes it wrote, or 1, or 12
-abbrev pub answer_of : Option (List ℕ) → ℕ → Written
-answer_of none room = record { number = BAD; len = 0 }
-answer_of (some b) room = cond (leb (length b) room) (record { number = 0; len = length b }) (record { number = ROOM; len = 0 })
+abbrev pub answer_of : Option (List ℕ) → ℕ → Result ℕ WriteError
+answer_of None room = Err error.Unfit
+answer_of (Some b) room = cond (leb (length b) room) (Ok (length b)) (Err error.Room)
+
+-- the number of a refusal
+abbrev pub refusal_number : WriteError → ℕ
+refusal_number error.Unfit = BAD
+refusal_number error.Room = ROOM
 
 -- the buffer that it leaves: the record and then what stood there, or all as it was
 abbrev pub buffer_of : Option (List ℕ) → List ℕ → List ℕ
-buffer_of none buf = buf
-buffer_of (some b) buf = cond (leb (length b) (length buf)) (over 0 b buf) buf
+buffer_of None buf = buf
+buffer_of (Some b) buf = cond (leb (length b) (length buf)) (over 0 b buf) buf
 
 -- ---- as the code writes a record, field by field
 
@@ -105,19 +106,19 @@ fields_bytes v [] d t = []
 fields_bytes v (f ∷ fs) d t = field_bytes v f d t ++ fields_bytes v fs d t
 
 -- how many bytes they have, if the reader can give them
-unfoldable pub field_size : Version → Field → Fields → List ℕ → Size
-field_size v f d t = cond (givable v f d t) (Bytes (length (field_bytes v f d t))) Bad
+unfoldable pub field_size : Version → Field → Fields → List ℕ → Option ℕ
+field_size v f d t = cond (givable v f d t) (Some (length (field_bytes v f d t))) None
 
 -- the same of a list of fields, after n bytes
-unfoldable pub fields_size : Version → ℕ → List Field → Fields → List ℕ → Size
-fields_size v n fs d t = cond (givable_all v fs d t) (Bytes (n + length (fields_bytes v fs d t))) Bad
+unfoldable pub fields_size : Version → ℕ → List Field → Fields → List ℕ → Option ℕ
+fields_size v n fs d t = cond (givable_all v fs d t) (Some (n + length (fields_bytes v fs d t))) None
 
 -- no field has more than 1,026 bytes
-abbrev pub IsSmall : Size → Type 0
-IsSmall (Bytes k) = k ≤ 1026
-IsSmall Bad = Unit {0}
+abbrev pub IsSmall : Option ℕ → Type 0
+IsSmall (Some k) = k ≤ 1026
+IsSmall None = Unit {0}
 
 -- no record's fields have more than 7,182 bytes
-abbrev pub IsSized : Size → Type 0
-IsSized (Bytes n) = n ≤ 7182
-IsSized Bad = Unit {0}
+abbrev pub IsSized : Option ℕ → Type 0
+IsSized (Some n) = n ≤ 7182
+IsSized None = Unit {0}

@@ -1,58 +1,45 @@
 // The frame of a journal: its version byte, and its records one after another.
 ghost use Rattle.std.specs.Prelude.{◌≡◌};
-ghost use Rattle.journal.specs.Journal.{version_start, start_of, next_in};
-ghost use Rattle.journal.specs.Records.{version_numbered};
+ghost use Rattle.journal.specs.Journal.{start_of, next_in};
 
 use super::numbers::number_at;
 use super::records::read_record;
-use super::{Next, Number, RECORD, Reading, Start, TOO_LARGE, VERSION, Version};
+use super::{JournalError, Record, Version};
 
 // The most bytes that a journal has.
 const JOURNAL_MOST: usize = 65536;
 
-// The version of a byte, or 28.
-pub fn version_named(n: u8) -> Start
-    ensures { result ≡ version_start (version_numbered n) }
-{
-    if n == 0x01 {
-        return Start::Records(Version::V01);
-    }
-    if n == 0x02 {
-        return Start::Records(Version::V02);
-    }
-    Start::Fault(VERSION)
-}
-
-// The version of a journal's records, which begin at byte 1, or the number that it stops with.
-pub fn start_of(journal: &[u8]) -> Start
+// The version of a journal's records, which begin at byte 1.
+#[tactic(auto, using(crate::proofs::FrameLaws::start_faults))]
+pub fn start_of(journal: &[u8]) -> Result<Version, JournalError>
     ensures { result ≡ start_of journal.now }
 {
     if JOURNAL_MOST < journal.len() {
-        return Start::Fault(TOO_LARGE);
+        return Err(JournalError::TooLarge);
     }
-    if journal.len() < 1 {
-        return Start::Fault(VERSION);
+    if journal.is_empty() {
+        return Err(JournalError::Version);
     }
-    version_named(journal[0])
+    Version::try_from(journal[0])
 }
 
-// The next record of the part of a journal that is left. Its reader is handed the part that starts after the length.
-pub fn next_record(v: Version, rest: &[u8]) -> Next
+// The next record of the part of a journal that is left, with how many bytes it takes with its length; none at the end. Its
+// reader is handed the part that starts after the length.
+#[tactic(auto, using(crate::proofs::FrameLaws::nexts))]
+pub fn next_record(v: Version, rest: &[u8]) -> Result<Option<(Record, usize)>, JournalError>
     ensures { result ≡ next_in v rest.now }
 {
-    if rest.len() < 1 {
-        return Next::End;
+    if rest.is_empty() {
+        return Ok(None);
     }
-    let Number::Value(n) = number_at(rest, 0, 2) else {
-        return Next::Stop(RECORD);
+    let Some(n) = number_at(rest, 0, 2) else {
+        return Err(JournalError::Record);
     };
     let len = n as usize;
     if rest.len() - 2 < len {
-        return Next::Stop(RECORD);
+        return Err(JournalError::Record);
     }
     let end = 2 + len;
-    match read_record(v, &rest[2..end]) {
-        Reading::Fits(r) => Next::Whole(r, end),
-        Reading::Refused(number) => Next::Stop(number),
-    }
+    let r = read_record(v, &rest[2..end])?;
+    Ok(Some((r, end)))
 }

@@ -1,155 +1,80 @@
 // The table of document 01's calls: each kind's number and its list of fields.
-ghost use Rattle.std.specs.Prelude.{◌≡◌, map, ◌<◌, ◌≤◌, length, get_or};
-ghost use Rattle.journal.specs.Records.{fields_of};
-ghost use Rattle.journal.specs.Table.{all_fields, field_number, named, padded};
+ghost use Rattle.std.specs.Prelude.{◌≡◌, ◌≤◌};
+ghost use Rattle.journal.specs.Records.{fields_of, kind_numbered};
+ghost use Rattle.journal.specs.Table.{width_of};
 
-use super::{Field, Field as F, Kind, Named, Version};
+use super::{Field as F, Kind, Version};
 
-// The kinds, in the order of their numbers.
-const KINDS: [Kind; 16] = [
-    Kind::Advance,
-    Kind::Create,
-    Kind::Deposit,
-    Kind::Delete,
-    Kind::Undelete,
-    Kind::Grant,
-    Kind::Attenuate,
-    Kind::Revoke,
-    Kind::Open,
-    Kind::Stage,
-    Kind::Commit,
-    Kind::Abandon,
-    Kind::Remove,
-    Kind::Look,
-    Kind::Register,
-    Kind::Heartbeat,
-];
-
-// The kind of a number, 01 to 10 in every version.
-pub fn kind_named(v: Version, n: u8) -> Named
-    ensures { result ≡ named v n }
-{
-    if n < 1 {
-        return Named::Unknown;
+impl Version {
+    // The kind of a number, 01 to 10 in every version.
+    #[tactic(auto, using(crate::specs::VersionLaws::kinds_all), unfolding(crate::specs::Records::kind_among))]
+    pub fn kind_numbered(self, n: u8) -> Option<Kind>
+        ensures { result ≡ kind_numbered self n }
+    {
+        match n {
+            0x01 => Some(Kind::Advance),
+            0x02 => Some(Kind::Create),
+            0x03 => Some(Kind::Deposit),
+            0x04 => Some(Kind::Delete),
+            0x05 => Some(Kind::Undelete),
+            0x06 => Some(Kind::Grant),
+            0x07 => Some(Kind::Attenuate),
+            0x08 => Some(Kind::Revoke),
+            0x09 => Some(Kind::Open),
+            0x0a => Some(Kind::Stage),
+            0x0b => Some(Kind::Commit),
+            0x0c => Some(Kind::Abandon),
+            0x0d => Some(Kind::Remove),
+            0x0e => Some(Kind::Look),
+            0x0f => Some(Kind::Register),
+            0x10 => Some(Kind::Heartbeat),
+            _ => None,
+        }
     }
-    if 16 < n {
-        return Named::Unknown;
-    }
-    let i = (n - 1) as usize;
-    Named::Kind(KINDS[i])
-}
 
-// How many fields a kind has, which is the same in every version.
-pub fn field_count(v: Version, kind: Kind) -> usize
-    ensures { (result ≡ length (fields_of v kind)) × (result ≤ 7) }
-{
-    match kind {
-        Kind::Advance => 1,
-        Kind::Create => 5,
-        Kind::Deposit => 2,
-        Kind::Delete => 2,
-        Kind::Undelete => 2,
-        Kind::Grant => 7,
-        Kind::Attenuate => 6,
-        Kind::Revoke => 2,
-        Kind::Open => 2,
-        Kind::Stage => 4,
-        Kind::Commit => 1,
-        Kind::Abandon => 1,
-        Kind::Remove => 3,
-        Kind::Look => 2,
-        Kind::Register => 1,
-        Kind::Heartbeat => 1,
-    }
-}
-
-// The fields, each at its number.
-const FIELDS: [Field; 13] = [
-    F::Account,
-    F::No,
-    F::Slot,
-    F::K,
-    F::M,
-    F::Text,
-    F::Amount,
-    F::Hash,
-    F::Mode,
-    F::Cap,
-    F::From,
-    F::Until,
-    F::None,
-];
-
-const ACCOUNT: usize = 0;
-
-const NO: usize = 1;
-
-const SLOT: usize = 2;
-
-const K: usize = 3;
-
-const M: usize = 4;
-
-const TEXT: usize = 5;
-
-const AMOUNT: usize = 6;
-
-const HASH: usize = 7;
-
-const MODE: usize = 8;
-
-const CAP: usize = 9;
-
-const FROM: usize = 10;
-
-const UNTIL: usize = 11;
-
-const NONE: usize = 12;
-
-// The field of a number.
-fn field_numbered(i: usize) -> Field
-    requires { i < 13 }
-    ensures { result ≡ get_or all_fields i Field.None }
-{
-    FIELDS[i]
-}
-
-// Each kind's fields in order, by their numbers, filled up with that of `None`.
-fn field_numbers(v: Version, kind: Kind) -> [usize; 7]
-    ensures { result ≡ map field_number (padded (fields_of v kind)) }
-{
-    match kind {
-        Kind::Advance => [AMOUNT, NONE, NONE, NONE, NONE, NONE, NONE],
-        Kind::Create => [ACCOUNT, TEXT, K, M, CAP, NONE, NONE],
-        Kind::Deposit => [NO, AMOUNT, NONE, NONE, NONE, NONE, NONE],
-        Kind::Delete => [ACCOUNT, NO, NONE, NONE, NONE, NONE, NONE],
-        Kind::Undelete => [ACCOUNT, NO, NONE, NONE, NONE, NONE, NONE],
-        Kind::Grant => [ACCOUNT, NO, TEXT, MODE, CAP, FROM, UNTIL],
-        Kind::Attenuate => [NO, TEXT, MODE, CAP, FROM, UNTIL, NONE],
-        Kind::Revoke => [ACCOUNT, NO, NONE, NONE, NONE, NONE, NONE],
-        Kind::Open => [SLOT, NO, NONE, NONE, NONE, NONE, NONE],
-        Kind::Stage => [SLOT, TEXT, AMOUNT, HASH, NONE, NONE, NONE],
-        Kind::Commit => [SLOT, NONE, NONE, NONE, NONE, NONE, NONE],
-        Kind::Abandon => [SLOT, NONE, NONE, NONE, NONE, NONE, NONE],
-        Kind::Remove => [ACCOUNT, NO, TEXT, NONE, NONE, NONE, NONE],
-        Kind::Look => [NO, TEXT, NONE, NONE, NONE, NONE, NONE],
-        Kind::Register => [AMOUNT, NONE, NONE, NONE, NONE, NONE, NONE],
-        Kind::Heartbeat => [NO, NONE, NONE, NONE, NONE, NONE, NONE],
+    // A kind's fields in order, the same in every version.
+    pub fn fields_of(self, kind: Kind) -> &'static [F]
+        ensures { result.now ≡ fields_of self kind }
+    {
+        match kind {
+            Kind::Advance => &[F::Amount],
+            Kind::Create => &[F::Account, F::Text, F::K, F::M, F::Cap],
+            Kind::Deposit => &[F::No, F::Amount],
+            Kind::Delete => &[F::Account, F::No],
+            Kind::Undelete => &[F::Account, F::No],
+            Kind::Grant => &[
+                F::Account,
+                F::No,
+                F::Text,
+                F::Mode,
+                F::Cap,
+                F::From,
+                F::Until,
+            ],
+            Kind::Attenuate => &[F::No, F::Text, F::Mode, F::Cap, F::From, F::Until],
+            Kind::Revoke => &[F::Account, F::No],
+            Kind::Open => &[F::Slot, F::No],
+            Kind::Stage => &[F::Slot, F::Text, F::Amount, F::Hash],
+            Kind::Commit => &[F::Slot],
+            Kind::Abandon => &[F::Slot],
+            Kind::Remove => &[F::Account, F::No, F::Text],
+            Kind::Look => &[F::No, F::Text],
+            Kind::Register => &[F::Amount],
+            Kind::Heartbeat => &[F::No],
+        }
     }
 }
 
-// Each kind's fields in order, filled up with `None`.
-pub fn fields_of(v: Version, kind: Kind) -> [Field; 7]
-    ensures { result ≡ padded (fields_of v kind) }
-{
-    let n = field_numbers(v, kind);
-    [
-        field_numbered(n[0]),
-        field_numbered(n[1]),
-        field_numbered(n[2]),
-        field_numbered(n[3]),
-        field_numbered(n[4]),
-        field_numbered(n[5]),
-        field_numbered(n[6]),
-    ]
+impl F {
+    // How many bytes a field has that is a number, and 0 for the others.
+    pub(crate) fn width(self) -> usize
+        ensures { (result ≡ width_of self) × (result ≤ 8) }
+    {
+        match self {
+            F::Slot | F::K | F::M => 1,
+            F::No => 4,
+            F::Amount | F::From | F::Until => 8,
+            F::Account | F::Text | F::Hash | F::Mode | F::Cap => 0,
+        }
+    }
 }

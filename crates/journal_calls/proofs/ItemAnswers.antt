@@ -1,4 +1,5 @@
 -- What stands at a place of a journal, as the code answers it. Assumes nothing.
+use Rattle.std.specs.Prelude.{Option, Some, None, Result, Ok, Err}
 use mathlib.Core.Path.{◌≡◌, sym, ◌∙◌, ap}
 use mathlib.Core.List.{List, []}
 use Prim.Native.Nat.{ℕ, ◌+◌, ◌-◌, ◌^◌, ◌<◌, ◌≤◌}
@@ -13,8 +14,7 @@ use Rattle.rules.specs.Limits.{slot_rows}
 use Rattle.journal.specs.declared.Kind.{Kind}
 use Rattle.journal.specs.declared.Kind.TheVariants as kind
 use Rattle.journal.specs.declared.Record.{Record}
-use Rattle.journal.specs.declared.Next.{Next}
-use Rattle.journal.specs.declared.Next.TheVariants.{End, Whole, Stop}
+use Rattle.journal.specs.declared.errors.JournalError.{JournalError}
 use Rattle.journal.proofs.FieldLaws.{bytes_known}
 use Rattle.journal.specs.declared.Version.{Version}
 use Rattle.journal.specs.Places.{blank}
@@ -47,17 +47,17 @@ unfolding next_in
 past_end v l p x h e = record { same = rw (e, drop_of_length-le l {i = p} h) }
 
 -- next is what stands next in the bytes that the code has from p on
-module _ (v : Version) (l : List ℕ) (p : ℕ) (next : Next) (e : next ≡ next_in v (take (length l - p) (drop p l))) where
+module _ (v : Version) (l : List ℕ) (p : ℕ) (next : Result (Option (Record × ℕ)) JournalError) (e : next ≡ next_in v (take (length l - p) (drop p l))) where
   here : next_in v (drop p l) ≡ next
   here = sym (e ∙ ap (next_in v) (take_all (length l - p) (drop p l) (omega (arith, length-drop p l))))
 
-  pub end_item : (x : Item) → next ≡ End → x ≡ record { group = group.End; fields = blank kind.Advance; after = p } → StandsAt v l p x
+  pub end_item : (x : Item) → next ≡ Ok None → x ≡ record { group = group.End; fields = blank kind.Advance; after = p } → StandsAt v l p x
   end_item x w f = record { same = rw (here, w) f }
 
-  pub stop_item : (x : Item) (number : ℕ) → next ≡ Stop number → x ≡ record { group = group.Stop number; fields = blank kind.Advance; after = p } → StandsAt v l p x
-  stop_item x number w f = record { same = rw (here, w) f }
+  pub stop_item : (x : Item) (fault : JournalError) → next ≡ Err fault → x ≡ record { group = group.Stop fault; fields = blank kind.Advance; after = p } → StandsAt v l p x
+  stop_item x fault w f = record { same = rw (here, w) f }
 
-  module _ (r : Record) (n : ℕ) (w : next ≡ Whole r n) where
+  module _ (r : Record) (n : ℕ) (w : next ≡ Ok (Some (r, n))) where
     pub whole_item : (g : Group) → g ≡ group_of r.kind r.slot → StandsAt v l p (record { group = g; fields = r; after = p + n })
     whole_item g f = record { same = rw (here, w, f) }
 

@@ -1,6 +1,6 @@
 -- The kinds of calls by the part of the desk that they change, the call that a record of each stands for, and what stands at a place of a
 -- journal. Assumes nothing.
-use Rattle.std.specs.Prelude.{◌≡◌, Bool, true, false, cond, List, ℕ, ◌+◌, ◌-◌, leb, take, drop}
+use Rattle.std.specs.Prelude.{◌≡◌, Bool, true, false, cond, List, ℕ, ◌+◌, ◌-◌, leb, take, drop, Option, Some, None, Result, Ok, Err}
 use Rattle.rules.specs.declared.Account.{Account}
 use Rattle.rules.specs.Limits.{slot_rows}
 use Rattle.rules.specs.Scope.{ScopeArg}
@@ -10,8 +10,7 @@ use Rattle.journal.specs.declared.Kind.TheVariants as kind
 use Rattle.journal.specs.declared.Record.{Record}
 use Rattle.journal.specs.declared.Version.{Version}
 use Rattle.journal.specs.Records.{v01}
-use Rattle.journal.specs.declared.Next.{Next}
-use Rattle.journal.specs.declared.Next.TheVariants.{End, Whole, Stop}
+use Rattle.journal.specs.declared.errors.JournalError.{JournalError}
 use Rattle.journal.specs.Journal.{next_in}
 use Rattle.journal.specs.Places.{blank, account_at, text_at, hash_at, call_at}
 use Rattle.journal_calls.specs.declared.RelayCall.{RelayCall}
@@ -90,7 +89,7 @@ slot_work slot.Abandon r l = abandons
 -- and is not made
 abbrev pub call_in : Group → Record → List ℕ → Call
 call_in group.End r l = call_at v01 r l
-call_in (group.Stop number) r l = call_at v01 r l
+call_in (group.Stop e) r l = call_at v01 r l
 call_in (group.Relays w) r l = ask (relay_ask w r)
 call_in (group.Volumes w) r l = ask (volume_ask w r l)
 call_in (group.Tokens w) r l = ask (token_ask w r l)
@@ -105,7 +104,7 @@ call_in group.Remove r l = ask (remove_ask r l)
 -- a record stands there
 abbrev pub is_record : Group → Bool
 is_record group.End = false
-is_record (group.Stop number) = false
+is_record (group.Stop e) = false
 is_record (group.Relays w) = true
 is_record (group.Volumes w) = true
 is_record (group.Tokens w) = true
@@ -120,10 +119,10 @@ is_record group.Remove = true
 -- ---- what stands at a place
 
 -- by what stands next there
-abbrev pub item_of : ℕ → Next → Item
-item_of p End = record { group = group.End; fields = blank kind.Advance; after = p }
-item_of p (Stop number) = record { group = group.Stop number; fields = blank kind.Advance; after = p }
-item_of p (Whole r n) = record { group = group_of r.kind r.slot; fields = r; after = p + n }
+abbrev pub item_of : ℕ → Result (Option (Record × ℕ)) JournalError → Item
+item_of p (Ok None) = record { group = group.End; fields = blank kind.Advance; after = p }
+item_of p (Err e) = record { group = group.Stop e; fields = blank kind.Advance; after = p }
+item_of p (Ok (Some (r, n))) = record { group = group_of r.kind r.slot; fields = r; after = p + n }
 
 -- x is what stands at the place p of the records l, which are of the version v
 pub record StandsAt (v : Version) (l : List ℕ) (p : ℕ) (x : Item) : Type 0 where

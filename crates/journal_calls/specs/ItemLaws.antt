@@ -1,5 +1,5 @@
 -- What stands at a place of a journal, as the code is told it: what the journal holds from there on, and the group of a record. Assumes nothing.
-use Rattle.std.specs.Prelude.{◌≡◌, Bool, cond, List, ℕ, ◌+◌, ◌<◌, ◌≤◌, length, drop}
+use Rattle.std.specs.Prelude.{◌≡◌, Bool, cond, List, ℕ, ◌+◌, ◌<◌, ◌≤◌, length, drop, Option, Some, None, Result, Ok, Err}
 use Rattle.std.proofs.Math.Path.{refl}
 use Rattle.std.proofs.Common.{sym, ◌∙◌, ap, arith, leb-false, length-drop}
 use Rattle.std.proofs.Math.Bool.{true, false}
@@ -14,13 +14,12 @@ use Rattle.rules.specs.Calls.{Work, commits, abandons, on_slot, rule}
 use Rattle.journal.specs.declared.Kind.{Kind}
 use Rattle.journal.specs.declared.Kind.TheVariants as kind
 use Rattle.journal.specs.declared.Record.{Record}
-use Rattle.journal.specs.declared.Next.{Next}
-use Rattle.journal.specs.declared.Next.TheVariants.{End, Whole, Stop}
+use Rattle.journal.specs.declared.errors.JournalError.{JournalError}
 use Rattle.journal.specs.declared.Version.{Version}
 use Rattle.journal.specs.Records.{v01}
 use Rattle.journal.specs.Places.{call_at}
 use Rattle.journal.proofs.PlaceLaws.{call_alike}
-use Rattle.journal.specs.Journal.{stopped, ended, after, records, next_in}
+use Rattle.journal.specs.Journal.{error_number, stopped, ended, after, records, next_in}
 use Rattle.journal_calls.specs.declared.SlotCall.TheVariants as slot
 use Rattle.journal_calls.specs.declared.Group.{Group}
 use Rattle.journal_calls.specs.declared.Group.TheVariants as group
@@ -60,7 +59,7 @@ call_in_group r l = by_kind r l r.kind refl
 -- the groups of calls on a slot that is there, and the one of those where there is none
 abbrev pub has_slot : Group → Bool
 has_slot group.End = false
-has_slot (group.Stop number) = false
+has_slot (group.Stop fault) = false
 has_slot (group.Relays w) = false
 has_slot (group.Volumes w) = false
 has_slot (group.Tokens w) = false
@@ -74,7 +73,7 @@ has_slot group.Remove = false
 
 abbrev pub lacks_slot : Group → Bool
 lacks_slot group.End = false
-lacks_slot (group.Stop number) = false
+lacks_slot (group.Stop fault) = false
 lacks_slot (group.Relays w) = false
 lacks_slot (group.Volumes w) = false
 lacks_slot (group.Tokens w) = false
@@ -180,28 +179,28 @@ pub record Within (l : List ℕ) (p end : ℕ) : Type 0 where
   pub most : end ≤ length l
 
 module _ (v : Version) (l : List ℕ) (h : are_bytes l ≡ true) (p : ℕ) where
-  whole_most : p ≤ length l → (r : Record) (n : ℕ) → next_in v (drop p l) ≡ Whole r n → p + n ≤ length l
+  whole_most : p ≤ length l → (r : Record) (n : ℕ) → next_in v (drop p l) ≡ Ok (Some (r, n)) → p + n ≤ length l
   whole_most k r n f = omega (arith, (record_sized v l h p r n f).there, length-drop p l)
 
-  within_by : p ≤ length l → (next : Next) → next_in v (drop p l) ≡ next → Within l p (item_of p next).after
-  within_by k End f = record { least = omega arith; most = k }
-  within_by k (Stop number) f = record { least = omega arith; most = k }
-  within_by k (Whole r n) f = record { least = omega arith; most = whole_most k r n f }
+  within_by : p ≤ length l → (next : Result (Option (Record × ℕ)) JournalError) → next_in v (drop p l) ≡ next → Within l p (item_of p next).after
+  within_by k (Ok None) f = record { least = omega arith; most = k }
+  within_by k (Err fault) f = record { least = omega arith; most = k }
+  within_by k (Ok (Some (r, n))) f = record { least = omega arith; most = whole_most k r n f }
 
-  end_by : (next : Next) → next_in v (drop p l) ≡ next → (item_of p next).group ≡ group.End → records v (drop p l) ≡ ended
-  end_by End f g = left_at_end v l h p f
-  end_by (Stop number) f g = absurd (let z : ◌≡◌ {A = ℕ} 0 1 = cc in omega arith)
-  end_by (Whole r k) f g = absurd (false≢true (rw g at (group_record r.kind r.slot)))
+  end_by : (next : Result (Option (Record × ℕ)) JournalError) → next_in v (drop p l) ≡ next → (item_of p next).group ≡ group.End → records v (drop p l) ≡ ended
+  end_by (Ok None) f g = left_at_end v l h p f
+  end_by (Err fault) f g = absurd (let z : ◌≡◌ {A = ℕ} 0 1 = cc in omega arith)
+  end_by (Ok (Some (r, k))) f g = absurd (false≢true (rw g at (group_record r.kind r.slot)))
 
-  stop_by : (number : ℕ) (next : Next) → next_in v (drop p l) ≡ next → (item_of p next).group ≡ group.Stop number → records v (drop p l) ≡ stopped number
-  stop_by number End f g = absurd (let z : ◌≡◌ {A = ℕ} 0 1 = cc in omega arith)
-  stop_by number (Stop m) f g = let e : m ≡ number = cc in left_at_stop v l h p number (f ∙ ap Stop e)
-  stop_by number (Whole r k) f g = absurd (false≢true (rw g at (group_record r.kind r.slot)))
+  stop_by : (fault : JournalError) (next : Result (Option (Record × ℕ)) JournalError) → next_in v (drop p l) ≡ next → (item_of p next).group ≡ group.Stop fault → records v (drop p l) ≡ stopped (error_number fault)
+  stop_by fault (Ok None) f g = absurd (let z : ◌≡◌ {A = ℕ} 0 1 = cc in omega arith)
+  stop_by fault (Err m) f g = let e : m ≡ fault = cc in left_at_stop v l h p fault (f ∙ ap Err e)
+  stop_by fault (Ok (Some (r, k))) f g = absurd (false≢true (rw g at (group_record r.kind r.slot)))
 
-  record_by : p ≤ length l → (next : Next) → next_in v (drop p l) ≡ next → is_record (item_of p next).group ≡ true → RecordAt v l p (item_of p next)
-  record_by k End f g = absurd (false≢true g)
-  record_by k (Stop number) f g = absurd (false≢true g)
-  record_by k (Whole r n) f g =
+  record_by : p ≤ length l → (next : Result (Option (Record × ℕ)) JournalError) → next_in v (drop p l) ≡ next → is_record (item_of p next).group ≡ true → RecordAt v l p (item_of p next)
+  record_by k (Ok None) f g = absurd (false≢true g)
+  record_by k (Err fault) f g = absurd (false≢true g)
+  record_by k (Ok (Some (r, n))) f g =
       record { least = omega (arith, (record_sized v l h p r n f).least); most = whole_most k r n f; left = rw (call_alike v r (body_at p (p + n) l)) at (left_at_record v l h p r n f) }
 
   module _ (x : Item) (e : x ≡ item_of p (next_in v (drop p l))) where
@@ -211,17 +210,17 @@ module _ (v : Version) (l : List ℕ) (h : are_bytes l ≡ true) (p : ℕ) where
     pub item_end : x.group ≡ group.End → records v (drop p l) ≡ ended
     item_end g = end_by (next_in v (drop p l)) refl (rw e at g)
 
-    pub item_stop : (number : ℕ) → x.group ≡ group.Stop number → records v (drop p l) ≡ stopped number
-    item_stop number g = stop_by number (next_in v (drop p l)) refl (rw e at g)
+    pub item_stop : (fault : JournalError) → x.group ≡ group.Stop fault → records v (drop p l) ≡ stopped (error_number fault)
+    item_stop fault g = stop_by fault (next_in v (drop p l)) refl (rw e at g)
 
     pub item_record : p ≤ length l → is_record x.group ≡ true → RecordAt v l p x
     item_record k g = rw e (record_by k (next_in v (drop p l)) refl (rw e at g))
 
 -- the group of a record is that of its fields
-named_by : (p : ℕ) (next : Next) → is_record (item_of p next).group ≡ true → (item_of p next).group ≡ group_of (item_of p next).fields.kind (item_of p next).fields.slot
-named_by p End g = absurd (false≢true g)
-named_by p (Stop number) g = absurd (false≢true g)
-named_by p (Whole r n) g = refl
+named_by : (p : ℕ) (next : Result (Option (Record × ℕ)) JournalError) → is_record (item_of p next).group ≡ true → (item_of p next).group ≡ group_of (item_of p next).fields.kind (item_of p next).fields.slot
+named_by p (Ok None) g = absurd (false≢true g)
+named_by p (Err fault) g = absurd (false≢true g)
+named_by p (Ok (Some (r, n))) g = refl
 
 pub item_named : (v : Version) (l : List ℕ) (p : ℕ) (x : Item) → x ≡ item_of p (next_in v (drop p l)) → is_record x.group ≡ true
     → x.group ≡ group_of x.fields.kind x.fields.slot

@@ -5,9 +5,7 @@ ghost use Rattle.journal.specs.Places.{blank};
 ghost use Rattle.journal_calls.specs.Groups.{group_of, on_slot_there, StandsAt, BodyAt};
 
 use super::{Group, Item, RelayCall, SlotCall, TokenCall, VolumeCall};
-use amount::Cap;
-use journal::{Kind, Next, Record, Version, next_record};
-use rules::Mode;
+use journal::{Kind, Record, Version, next_record};
 
 // The group of a call on a slot, by whether there is such a slot.
 fn on_slot(slot: u8, group: Group) -> Group
@@ -43,36 +41,13 @@ fn group_of(kind: Kind, slot: u8) -> Group
     }
 }
 
-// The fields where no record stands.
-fn no_record() -> Record
-    ensures { result ≡ blank Kind.Advance }
-{
-    Record {
-        kind: Kind::Advance,
-        account: 0,
-        no: 0,
-        slot: 0,
-        k: 0,
-        m: 0,
-        text: 0,
-        text_len: 0,
-        amount: 0,
-        hash: 0,
-        mode: Mode::Read,
-        cap: Cap::Unlimited,
-        from: 0,
-        until: 0,
-    }
-}
-
 // The end, or a fault, at a place.
 fn no_item(group: Group, p: usize) -> Item
     ensures { result ≡ record { group = group; fields = blank Kind.Advance; after = p } }
 {
-    let fields = no_record();
     Item {
         group,
-        fields,
+        fields: Record::blank(Kind::Advance),
         after: p,
     }
 }
@@ -84,19 +59,14 @@ pub fn item_at(v: Version, journal: &[u8], p: usize) -> Item
     if journal.len() <= p {
         return no_item(Group::End, p);
     }
-    let next = next_record(v, &journal[p..]);
-    match next {
-        Next::End => no_item(Group::End, p),
-        Next::Stop(number) => no_item(Group::Stop(number), p),
-        Next::Whole(fields, len) => {
-            let kind = fields.kind;
-            let group = group_of(kind, fields.slot);
-            Item {
-                group,
-                fields,
-                after: p + len,
-            }
-        }
+    match next_record(v, &journal[p..]) {
+        Ok(None) => no_item(Group::End, p),
+        Err(error) => no_item(Group::Stop(error), p),
+        Ok(Some((fields, len))) => Item {
+            group: group_of(fields.kind, fields.slot),
+            fields,
+            after: p + len,
+        },
     }
 }
 

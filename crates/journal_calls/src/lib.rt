@@ -8,7 +8,7 @@ mod places;
 
 pub use carry::{relay_call, volume_call};
 pub use items::{body_at, item_at};
-use journal::Record;
+use journal::{JournalError, Record};
 pub use places::text_place;
 
 // The calls by the part of the desk that they change.
@@ -44,7 +44,7 @@ pub enum SlotCall {
 #[derive(Clone, Copy)]
 pub enum Group {
     End,
-    Stop(u32),
+    Stop(JournalError),
     Relays(RelayCall),
     Volumes(VolumeCall),
     Tokens(TokenCall),

@@ -3,7 +3,7 @@
 #![tactic(auto)]
 
 use amount::Cap;
-use journal::{Fields, Next, Reading, Record, Start, Version};
+use journal::{Fields, Record, Version};
 use rules::Mode;
 use std::io;
 use std::io::{BufWriter, Write};
@@ -69,8 +69,11 @@ fn show_record(out: &mut impl Write, body: &[u8], r: Record) -> io::Result<()> {
 // One record's bytes, in a version.
 fn show_in(out: &mut impl Write, v: Version, body: &[u8]) -> io::Result<()> {
     match journal::read_record(v, body) {
-        Reading::Fits(r) => show_record(out, body, r),
-        Reading::Refused(n) => writeln!(out, "{n}"),
+        Ok(r) => show_record(out, body, r),
+        Err(error) => {
+            let n = error.number();
+            writeln!(out, "{n}")
+        }
     }
 }
 
@@ -85,11 +88,11 @@ fn show_02(out: &mut impl Write, body: &[u8]) -> io::Result<()> {
 // How many bytes the text of a record has.
 fn show_length(out: &mut impl Write, v: Version, body: &[u8]) -> io::Result<()> {
     match journal::read_record(v, body) {
-        Reading::Fits(r) => {
+        Ok(r) => {
             let text = journal::text_of(body, r);
             field(out, b"text of ", text.len() as u64)?;
         }
-        Reading::Refused(n) => field(out, b"", n as u64)?,
+        Err(error) => field(out, b"", u64::from(error.number()))?,
     }
     word(out, b"\n")
 }
@@ -138,18 +141,22 @@ fn thrice(out: &mut impl Write, s: &[u8]) -> io::Result<()> {
 
 fn next(out: &mut impl Write, rest: &[u8]) -> io::Result<()> {
     match journal::next_record(Version::V01, rest) {
-        Next::End => word(out, b"end\n"),
-        Next::Whole(_, n) => writeln!(out, "whole {n}"),
-        Next::Stop(n) => writeln!(out, "stop {n}"),
+        Ok(None) => word(out, b"end\n"),
+        Ok(Some((_, n))) => writeln!(out, "whole {n}"),
+        Err(error) => {
+            let n = error.number();
+            writeln!(out, "stop {n}")
+        }
     }
 }
 
 // The number of a fault at the start, or 0.
 fn start(out: &mut impl Write, journal: &[u8]) -> io::Result<()> {
-    match journal::start_of(journal) {
-        Start::Records(_) => field(out, b"start ", 0)?,
-        Start::Fault(n) => field(out, b"start ", n as u64)?,
-    }
+    let n = match journal::start_of(journal) {
+        Ok(_) => 0,
+        Err(error) => error.number(),
+    };
+    field(out, b"start ", u64::from(n))?;
     word(out, b"\n")
 }
 
@@ -196,9 +203,12 @@ fn written_in(
         from: 10,
         until: 20,
     };
-    let w = journal_writer::write_record(version, d, text, buf);
-    field(out, b"write ", w.number as u64)?;
-    field(out, b" ", w.len as u64)?;
+    let (refused, len) = match journal_writer::write_record(version, d, text, buf) {
+        Ok(len) => (0, len),
+        Err(error) => (error.number(), 0),
+    };
+    field(out, b"write ", u64::from(refused))?;
+    field(out, b" ", len as u64)?;
     word(out, b" ")?;
     show_bytes(out, buf)?;
     word(out, b"\n")

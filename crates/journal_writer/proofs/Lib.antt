@@ -2,4 +2,3 @@ pub mod OverLaws
 pub mod SizeLaws
 pub mod PutLaws
 pub mod WriteLaws
-pub mod VersionAnswers

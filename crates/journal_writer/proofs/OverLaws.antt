@@ -4,7 +4,7 @@ use mathlib.Core.List.{List, ◌++◌}
 use Prim.Native.Nat.{ℕ, suc, ◌+◌, ◌-◌, ◌/◌, ◌%◌, ◌<◌, ◌≤◌}
 use native.Mathlib.Omega.{arith}
 use borrow.Author.Rules.{rules}
-use lib.ListN.{length, set, length-set}
+use lib.ListN.{length, set, length-set, length-append}
 use Rattle.lists.specs.Bytes.{over}
 use Rattle.lists.specs.OverLaws.{over_none, over_last, over_over}
 use Rattle.journal.specs.Numbers.{bytes_of}
@@ -18,35 +18,33 @@ number_turn at j n buf h =
     let k : at + length (bytes_of j (n / 256)) < length buf = rw e h in
     ap (λ (i : ℕ). over at (bytes_of j (n / 256)) (set buf (at + i) (n % 256))) (sym e) ∙ over_last at (bytes_of j (n / 256)) (n % 256) buf k
 
--- the loop that does so: i bytes of the number's w are left, of what is left of the number, and the rest is written
+-- the loop that does so: i bytes of the number's w are written, and those before them are left, of what is left of the number
 pub record NumberPutLoop (out₀ : List ℕ) (at w n i rest : ℕ) (out : List ℕ) : Type 0 where
-  pub place : i ≤ w
-  pub room : at + w ≤ length out₀
   pub size : length out ≡ length out₀
-  pub left : over at (bytes_of i rest) out ≡ over at (bytes_of w n) out₀
+  pub left : over at (bytes_of (w - i) rest) out ≡ over at (bytes_of w n) out₀
 
 module _ (out₀ : List ℕ) (at w n : ℕ) where
-  pub number_start : at + w ≤ length out₀ → NumberPutLoop out₀ at w n w n out₀
-  number_start h = record { place = omega arith; room = h; size = refl; left = refl }
+  pub number_start : NumberPutLoop out₀ at w n 0 n out₀
+  number_start = let z : w - 0 ≡ w = omega arith in record { size = refl; left = rw z }
 
   module _ (i rest : ℕ) (out : List ℕ) (h : NumberPutLoop out₀ at w n i rest out) where
-    pub number_step : 0 < i → NumberPutLoop out₀ at w n (i - 1) (rest / 256) (set out (at + (i - 1)) (rest % 256))
-    number_step k =
-        let e : suc (i - 1) ≡ i = omega arith in
+    pub number_step : i < w → at + w ≤ length out₀ → NumberPutLoop out₀ at w n (i + 1) (rest / 256) (set out (at + (w - 1 - i)) (rest % 256))
+    number_step k room =
+        let e : suc (w - 1 - i) ≡ w - i = omega arith in
+        let f : w - (i + 1) ≡ w - 1 - i = omega arith in
+        let r : at + (w - 1 - i) < length out = omega (arith, h.size) in
         record {
-          place = omega arith;
-          room = h.room;
-          size = length-set out (at + (i - 1)) (rest % 256) ∙ h.size;
-          left = number_turn at (i - 1) rest out (omega arith) ∙ ap (λ (j : ℕ). over at (bytes_of j rest) out) e ∙ h.left;
+          size = length-set out (at + (w - 1 - i)) (rest % 256) ∙ h.size;
+          left = rw f (number_turn at (w - 1 - i) rest out r ∙ ap (λ (j : ℕ). over at (bytes_of j rest) out) e ∙ h.left);
         }
 
-    pub number_end : i ≤ 0 → out ≡ over at (bytes_of w n) out₀
+    pub number_end : w ≤ i → out ≡ over at (bytes_of w n) out₀
     unfolding bytes_of
     number_end k =
-        let z : i ≡ 0 = omega arith in
+        let z : w - i ≡ 0 = omega arith in
         sym (over_none at out) ∙ ap (λ (j : ℕ). over at (bytes_of j rest) out) (sym z) ∙ h.left
 
-pub ruleset number-puts = (number_step, number_end, number_start, rules)
+pub ruleset number_puts = (number_step, number_end, number_start, rules)
 
 -- two pieces, the first of w bytes
 pub over_pair : (at w : ℕ) (a b buf : List ℕ) → length a ≡ w → at + w ≤ length buf → over (at + w) b (over at a buf) ≡ over at (a ++ b) buf
@@ -58,3 +56,5 @@ pub text_over : (at w n : ℕ) (t buf m out : List ℕ) → w ≡ n → at + (n 
 text_over at w n t buf m out q h e f =
     rw (← q)
     (f ∙ ap (over (at + w) t) e ∙ over_pair at w (bytes_of w (length t)) t buf (length_bytes_of w (length t)) (omega arith))
+
+pub ruleset pieces = (over_pair, text_over, length_bytes_of, length-append)

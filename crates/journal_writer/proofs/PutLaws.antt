@@ -1,14 +1,12 @@
 -- Writing one field: what the arm's function wrote is what the field has. Assumes nothing.
-use mathlib.Core.Path.{◌≡◌, sym, ◌∙◌, ap}
+use mathlib.Core.Path.{◌≡◌, ◌∙◌, ap}
 use mathlib.Core.Bool.{true}
-use mathlib.Core.List.{List, [], ◌++◌}
+use mathlib.Core.List.{List, ◌++◌}
 use Prim.Native.Nat.{ℕ, ◌+◌, ◌≤◌}
 use native.Mathlib.Omega.{arith}
 use lib.ListN.{length, length-append}
 use borrow.Author.Rules.{rules}
 use borrow.Author.Tests.{leb-true}
-use Rattle.amount.specs.declared.Cap.{Cap}
-use Rattle.amount.specs.declared.Cap.TheVariants.{Unlimited, Bytes as Count}
 use Rattle.journal.specs.declared.Field.{Field}
 use Rattle.journal.specs.declared.Field.TheVariants as its
 use Rattle.journal.specs.declared.Fields.{Fields}
@@ -18,9 +16,7 @@ use Rattle.journal.specs.Fields.{cap_bytes}
 use Rattle.journal.specs.declared.Version.{Version}
 use Rattle.journal.specs.Records.{text_width}
 use Rattle.journal.specs.Writes.{over, givable, field_bytes}
-use Rattle.lists.specs.OverLaws.{over_none}
-use Rattle.journal_writer.proofs.OverLaws.{over_pair}
-use Rattle.journal_writer.proofs.SizeLaws.{account_bytes, no_bytes, slot_bytes, k_bytes, m_bytes, text_bytes_lem, amount_bytes, hash_bytes, mode_bytes, cap_bytes_lem, from_bytes, until_bytes, none_bytes, unlimited_length, count_length}
+use Rattle.journal_writer.proofs.SizeLaws.{account_bytes, no_bytes, slot_bytes, k_bytes, m_bytes, text_bytes_lem, amount_bytes, hash_bytes, mode_bytes, cap_bytes_lem, from_bytes, until_bytes}
 
 -- the bytes of the field that the arm names, and how many they are
 module _ (v : Version) (f : Field) (d : Fields) (t : List ℕ) where
@@ -107,49 +103,10 @@ module _ (v : Version) (f : Field) (d : Fields) (t : List ℕ) where
     pub wrote : (b out out' : List ℕ) → out' ≡ over at b out → field_bytes v f d t ≡ b → out' ≡ over at (field_bytes v f d t) out
     wrote b out out' h e = rw e h
 
-    pub none_ends : f ≡ its.None → at ≡ at + length (field_bytes v f d t)
-    none_ends e = let b : field_bytes v f d t ≡ [] = rw e (none_bytes v d t) in omega (arith, ap length b)
-
-    pub none_wrote : (out : List ℕ) → f ≡ its.None → out ≡ over at (field_bytes v f d t) out
-    none_wrote out e = rw (e, none_bytes v d t) (sym (over_none at out))
-
 pub ruleset lengths =
     (no_length, slot_length, k_length, m_length, amount_length, from_length, until_length, account_length, hash_length_lem, text_length_lem, cap_length_lem, mode_length)
 
 pub ruleset rooms = (room, lengths, rules)
 
 pub ruleset writes =
-    (ends, wrote, none_ends, none_wrote, lengths, no_is, slot_is, k_is, m_is, amount_is, from_is, until_is, account_is, hash_is, text_is, cap_is, mode_is, rules)
-
--- ---- a cap: one byte, and the count where there is one. m is the buffer after that byte, and next the place
-
-module _ (cap : Cap) (at : ℕ) where
-  pub room_unlimited : (n : ℕ) → cap ≡ Unlimited → at + length (cap_bytes cap) ≤ n → at + 1 ≤ n
-  room_unlimited n e h = let l = rw e at h in omega (arith, unlimited_length)
-
-  pub ends_unlimited : (r : ℕ) → cap ≡ Unlimited → r ≡ at + 1 → r ≡ at + length (cap_bytes cap)
-  ends_unlimited r e h = rw e (omega (arith, unlimited_length))
-
-  pub wrote_unlimited : (out out' : List ℕ) → cap ≡ Unlimited → out' ≡ over at (bytes_of 1 0) out → out' ≡ over at (cap_bytes cap) out
-  wrote_unlimited out out' e h = rw e h
-
-  module _ (k : ℕ) (e : cap ≡ Count k) where
-    pub room_mark : (n : ℕ) → at + length (cap_bytes cap) ≤ n → at + 1 ≤ n
-    room_mark n h = let l = rw e at h in omega (arith, count_length k)
-
-    pub room_count : (n next s : ℕ) → at + length (cap_bytes cap) ≤ n → next ≡ at + 1 → s ≡ n → next + 8 ≤ s
-    room_count n next s h p q = let l = rw e at h in omega (arith, count_length k)
-
-    pub ends_count : (next r : ℕ) → next ≡ at + 1 → r ≡ next + 8 → r ≡ at + length (cap_bytes cap)
-    ends_count next r p q = rw e (omega (arith, count_length k))
-
-    pub wrote_count : (next : ℕ) (out m out' : List ℕ) → at + length (cap_bytes cap) ≤ length out → next ≡ at + 1 → m ≡ over at (bytes_of 1 1) out
-        → out' ≡ over next (bytes_of 8 k) m → out' ≡ over at (cap_bytes cap) out
-    wrote_count next out m out' h p q r =
-        rw e
-        (r ∙ ap (over next (bytes_of 8 k)) q ∙ ap (λ (i : ℕ). over i (bytes_of 8 k) (over at (bytes_of 1 1) out)) p
-        ∙ over_pair at 1 (bytes_of 1 1) (bytes_of 8 k) out (length_bytes_of 1 1) (room_mark (length out) h))
-
-pub ruleset cap-rooms = (room_unlimited, room_mark, room_count)
-
-pub ruleset cap-writes = (ends_unlimited, wrote_unlimited, ends_count, wrote_count)
+    (ends, wrote, lengths, no_is, slot_is, k_is, m_is, amount_is, from_is, until_is, account_is, hash_is, text_is, cap_is, mode_is, rules)

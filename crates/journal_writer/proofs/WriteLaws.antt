@@ -1,8 +1,8 @@
 -- Writing the fields of a record one after another, and the whole record. Assumes nothing.
+use Rattle.std.specs.Prelude.{Option, None, Some, Ok, Err}
 use mathlib.Core.Path.{◌≡◌, refl, sym, ◌∙◌, ap}
 use mathlib.Core.Bool.{Bool, true, false, cond}
 use mathlib.Core.List.{List, [], ◌∷◌, ◌++◌}
-use mathlib.Core.Option.{Option, none, some}
 use Prim.Native.Nat.{ℕ, suc, ◌+◌, ◌%◌, ◌<◌, ◌≤◌}
 use native.Mathlib.Nat.{mod-eq_of_lt}
 use native.Mathlib.Numerals.{add-one}
@@ -10,34 +10,26 @@ use native.Mathlib.Omega.{arith}
 use mir.Val.{Fits}
 use mir.Syntax.{w64}
 use lib.Dec.{leb, lit<}
-use lib.ListN.{length, take, drop, get_or, length-append, drop_of_length-le}
-use lib.Seq.{length-take-le}
+use lib.ListN.{length, drop, get_or, length-append, drop_of_length-le}
+use lib.Seq.{drop-cons}
 use borrow.Author.Rules.{rules}
 use borrow.Author.Tests.{le-leb, lt-leb}
-use Rattle.rules.specs.Numbers.{BAD, ROOM}
+use Rattle.journal.specs.declared.errors.WriteError.TheVariants as error
 use Rattle.journal.specs.declared.Kind.{Kind}
 use Rattle.journal.specs.declared.Kind.TheVariants.{Advance, Create, Deposit, Delete, Undelete, Grant, Attenuate, Revoke, Open, Stage, Commit, Abandon, Remove, Look, Register, Heartbeat}
 use Rattle.journal.specs.declared.Field.{Field}
 use Rattle.journal.specs.declared.Field.TheVariants as its
 use Rattle.journal.specs.declared.Fields.{Fields}
-use Rattle.journal.specs.declared.Named.{Named}
-use Rattle.journal.specs.declared.Named.TheVariants as a
-use Rattle.journal.specs.declared.Size.{Size}
-use Rattle.journal.specs.declared.Size.TheVariants.{Bytes, Bad}
-use Rattle.journal.specs.declared.Written.{Written}
 use Rattle.journal.specs.Numbers.{bytes_of}
 use Rattle.lists.specs.BoolLaws.{and_left, and_right}
 use Rattle.journal.proofs.NumberLaws.{length_bytes_of}
 use Rattle.journal.specs.Fields.{encode, encode_all}
 use Rattle.journal.specs.declared.Version.{Version}
-use Rattle.journal.specs.Records.{fields_of, forms_of, kinds, kind_number, kind_among, record_bytes}
+use Rattle.journal.specs.Records.{fields_of, forms_of, kinds, kind_number, kind_numbered, record_bytes}
 use Rattle.journal.proofs.RecordLaws.{kind_of_number}
-use Rattle.journal.specs.Table.{named, padded}
 use Rattle.journal.specs.Writes.{values_in, givable, givable_all, in_frame, kind_in, record_in, over, answer_of, buffer_of, field_bytes, fields_bytes, fields_size, IsSized}
 use Rattle.lists.specs.OverLaws.{over_none, over_over, length_over}
 use Rattle.journal_writer.proofs.OverLaws.{over_pair}
-use Rattle.journal_writer.proofs.SizeLaws.{fields_taken, count_within, field_in_lem}
-use Rattle.journal.specs.TableLaws.{named_kind, named_none}
 
 -- in any version
 module _ (v : Version) where
@@ -71,31 +63,28 @@ module _ (v : Version) where
   put_end d t at out = over_none at out
 
   -- the loop that does so: the fields from i on, from the place on, over the buffer give what all of them give from the start on
-  pub record PutLoop (out₀ : List ℕ) (start : ℕ) (d : Fields) (t : List ℕ) (fields : List Field) (count : ℕ) (out : List ℕ) (at i : ℕ) : Type 0 where
-    pub within : count ≤ length fields
+  pub record PutLoop (out₀ : List ℕ) (start : ℕ) (k : Kind) (d : Fields) (t out : List ℕ) (at i : ℕ) : Type 0 where
     pub size : length out ≡ length out₀
-    pub room : at + length (fields_bytes v (drop i (take count fields)) d t) ≤ length out
-    pub given : givable_all v (drop i (take count fields)) d t ≡ true
-    pub same : over at (fields_bytes v (drop i (take count fields)) d t) out ≡ over start (fields_bytes v (take count fields) d t) out₀
+    pub room : at + length (fields_bytes v (drop i (fields_of v k)) d t) ≤ length out
+    pub given : givable_all v (drop i (fields_of v k)) d t ≡ true
+    pub same : over at (fields_bytes v (drop i (fields_of v k)) d t) out ≡ over start (fields_bytes v (fields_of v k) d t) out₀
 
-  module _ (out₀ : List ℕ) (start : ℕ) (d : Fields) (t : List ℕ) (fields : List Field) (count : ℕ) where
-    pub put_start : (fs : List Field) → fields ≡ padded fs → count ≡ length fs → start + length (fields_bytes v fs d t) ≤ length out₀
-        → givable_all v fs d t ≡ true → PutLoop out₀ start d t fields count out₀ start 0
-    put_start fs e l h g =
-        let q = fields_taken fs fields count e l in
-        record { within = count_within fs fields count e l; size = refl; room = rw q h; given = rw q g; same = refl }
+  module _ (out₀ : List ℕ) (start : ℕ) (k : Kind) (d : Fields) (t : List ℕ) where
+    pub put_start : start + length (fields_bytes v (fields_of v k) d t) ≤ length out₀ → givable_all v (fields_of v k) d t ≡ true → PutLoop out₀ start k d t out₀ start 0
+    put_start h g = record { size = refl; room = h; given = g; same = refl }
 
-    module _ (out : List ℕ) (at i : ℕ) (h : PutLoop out₀ start d t fields count out at i) where
-      pub all_put : (fs : List Field) → fields ≡ padded fs → count ≡ length fs → count ≤ i → out ≡ over start (fields_bytes v fs d t) out₀
-      all_put fs e l k =
-          let z : drop i (take count fields) ≡ [] = drop_of_length-le (take count fields) {i = i} (omega (arith, length-take-le count fields h.within)) in
-          rw (← fields_taken fs fields count e l) (sym (put_end d t at out) ∙ (rw z at h.same))
+    module _ (fields : List Field) (e : fields ≡ fields_of v k) (out : List ℕ) (at i : ℕ) (h : PutLoop out₀ start k d t out at i) where
+      pub all_put : length fields ≤ i → out ≡ over start (fields_bytes v (fields_of v k) d t) out₀
+      all_put c =
+          let z : drop i (fields_of v k) ≡ [] = drop_of_length-le (fields_of v k) {i = i} (rw e at c) in
+          sym (put_end d t at out) ∙ (rw z at h.same)
 
-      module _ (j : i < count) where
-        next : Put (get_or fields i its.Account) (drop (suc i) (take count fields)) d t at out
-        next =
-            let e = field_in_lem fields count i j h.within in
-            put (get_or fields i its.Account) (drop (suc i) (take count fields)) d t at out (rw e at h.room) (rw e at h.given)
+      module _ (c : i < length fields) where
+        here : drop i (fields_of v k) ≡ get_or fields i its.Account ∷ drop (suc i) (fields_of v k)
+        here = rw (← e) (drop-cons fields i its.Account c)
+
+        next : Put (get_or fields i its.Account) (drop (suc i) (fields_of v k)) d t at out
+        next = put (get_or fields i its.Account) (drop (suc i) (fields_of v k)) d t at out (rw here at h.room) (rw here at h.given)
 
         pub next_room : at + length (field_bytes v (get_or fields i its.Account) d t) ≤ length out
         next_room = next.one
@@ -105,15 +94,14 @@ module _ (v : Version) where
 
         -- out' is the buffer after field i, and r the place
         pub put_step : (out' : List ℕ) (r : ℕ) → r ≡ at + length (field_bytes v (get_or fields i its.Account) d t)
-            → out' ≡ over at (field_bytes v (get_or fields i its.Account) d t) out → length out' ≡ length out → PutLoop out₀ start d t fields count out' r (i + 1)
+            → out' ≡ over at (field_bytes v (get_or fields i its.Account) d t) out → length out' ≡ length out → PutLoop out₀ start k d t out' r (i + 1)
         put_step out' r er eo el =
-            let b = fields_bytes v (drop (suc i) (take count fields)) d t in
+            let b = fields_bytes v (drop (suc i) (fields_of v k)) d t in
             let room : r + length b ≤ length out' = omega (arith, next.rest) in
-            let same : over r b out' ≡ over start (fields_bytes v (take count fields) d t) out₀ =
+            let same : over r b out' ≡ over start (fields_bytes v (fields_of v k) d t) out₀ =
             ap (λ (m : List ℕ). over r b m) eo ∙ ap (λ (k : ℕ). over k b (over at (field_bytes v (get_or fields i its.Account) d t) out)) er
-            ∙ next.same ∙ (rw (field_in_lem fields count i j h.within) at h.same) in
+            ∙ next.same ∙ (rw here at h.same) in
             record {
-              within = h.within;
               size = el ∙ h.size;
               room = rw (add-one i) room;
               given = rw (add-one i) next.more;
@@ -131,29 +119,29 @@ module _ (v : Version) where
   abbrev pub laid : Kind → Fields → List ℕ → List ℕ
   laid k d t = bytes_of 2 (1 + length (fields_bytes v (fields_of v k) d t)) ++ (bytes_of 1 d.kind ++ fields_bytes v (fields_of v k) d t)
 
-  pub unknown : (d : Fields) (t : List ℕ) → a.Unknown ≡ named v d.kind → record_in v d t ≡ none
-  unfolding record_in named
-  unknown d t e = ap (λ (o : Option Kind). kind_in v o d t) (named_none (kind_among d.kind (kinds v)) e)
+  pub unknown : (d : Fields) (t : List ℕ) → None ≡ kind_numbered v d.kind → record_in v d t ≡ None
+  unfolding record_in
+  unknown d t e = ap (λ (o : Option Kind). kind_in v o d t) (sym e)
 
-  known : (d : Fields) (t : List ℕ) (k : Kind) → a.Kind k ≡ named v d.kind → record_in v d t ≡ kind_in v (some k) d t
-  unfolding record_in named
-  known d t k e = ap (λ (o : Option Kind). kind_in v o d t) (named_kind (kind_among d.kind (kinds v)) k e)
+  known : (d : Fields) (t : List ℕ) (k : Kind) → Some k ≡ kind_numbered v d.kind → record_in v d t ≡ kind_in v (Some k) d t
+  unfolding record_in
+  known d t k e = ap (λ (o : Option Kind). kind_in v o d t) (sym e)
 
-  sizes : (g : Bool) (n k : ℕ) → Bytes k ≡ cond g (Bytes n) Bad → (g ≡ true) × (n ≡ k)
+  sizes : (g : Bool) (n k : ℕ) → Some k ≡ cond g (Some n) None → (g ≡ true) × (n ≡ k)
   sizes true n k e = (refl, cc)
   sizes false n k e = let z : ◌≡◌ {A = ℕ} 0 1 = cc in absurd (omega arith)
 
-  no_size : (g : Bool) (n : ℕ) → Bad ≡ cond g (Bytes n) Bad → g ≡ false
+  no_size : (g : Bool) (n : ℕ) → None ≡ cond g (Some n) None → g ≡ false
   no_size true n e = cc
   no_size false n e = refl
 
-  pub refused : (d : Fields) (t : List ℕ) (k : Kind) → a.Kind k ≡ named v d.kind → Bad ≡ fields_size v 0 (fields_of v k) d t → record_in v d t ≡ none
+  pub refused : (d : Fields) (t : List ℕ) (k : Kind) → Some k ≡ kind_numbered v d.kind → None ≡ fields_size v 0 (fields_of v k) d t → record_in v d t ≡ None
   unfolding fields_size
   refused d t k e s = known d t k e ∙ rw (no_size (givable_all v (fields_of v k) d t) _ s)
 
   -- a record that can be given, of n bytes after its kind
   pub record Laid (d : Fields) (t : List ℕ) (k : Kind) (n : ℕ) : Type 0 where
-    pub bytes : record_in v d t ≡ some (laid k d t)
+    pub bytes : record_in v d t ≡ Some (laid k d t)
     pub all : givable_all v (fields_of v k) d t ≡ true
     pub len : length (fields_bytes v (fields_of v k) d t) ≡ n
     pub whole : length (laid k d t) ≡ n + 3
@@ -188,13 +176,13 @@ module _ (v : Version) where
       let z : suc (length (fields_bytes v fs d t)) ≡ 1 + length (fields_bytes v fs d t) = omega arith in
       ap in_frame q ∙ ap (λ (j : ℕ). bytes_of 2 j ++ ((d.kind % 256 ∷ []) ++ fields_bytes v fs d t)) z
 
-  pub laid_out : (d : Fields) (t : List ℕ) (k : Kind) (n : ℕ) → a.Kind k ≡ named v d.kind → Bytes n ≡ fields_size v 0 (fields_of v k) d t → Laid d t k n
-  unfolding fields_size named
+  pub laid_out : (d : Fields) (t : List ℕ) (k : Kind) (n : ℕ) → Some k ≡ kind_numbered v d.kind → Some n ≡ fields_size v 0 (fields_of v k) d t → Laid d t k n
+  unfolding fields_size
   laid_out d t k n e s =
       let fs = fields_of v k in
       let p = sizes (givable_all v fs d t) (0 + length (fields_bytes v fs d t)) n s in
-      let c : d.kind ≡ kind_number k = kind_of_number d.kind (kinds v) k (named_kind (kind_among d.kind (kinds v)) k e) in
-      let b : record_in v d t ≡ some (laid k d t) = known d t k e ∙ rw p.0 (ap some (frame d t k (rw c (kind_lt k)) c)) in
+      let c : d.kind ≡ kind_number k = kind_of_number d.kind (kinds v) k (sym e) in
+      let b : record_in v d t ≡ Some (laid k d t) = known d t k e ∙ rw p.0 (ap Some (frame d t k (rw c (kind_lt k)) c)) in
       let l : length (fields_bytes v fs d t) ≡ n = omega (arith, p.1) in
       record {
         bytes = b;
@@ -219,21 +207,19 @@ module _ (v : Version) where
 
   -- the answer and the buffer of a record that fits, and of one that does not
   pub record Done (d : Fields) (t out : List ℕ) (n : ℕ) (b : List ℕ) : Type 0 where
-    pub answer : answer_of (record_in v d t) (length out) ≡ record { number = 0; len = n + 3 }
+    pub answer : answer_of (record_in v d t) (length out) ≡ Ok (n + 3)
     pub buffer : buffer_of (record_in v d t) out ≡ over 0 b out
 
   pub done : (d : Fields) (t out : List ℕ) (k : Kind) (n : ℕ) → Laid d t k n → n + 3 ≤ length out → Done d t out n (laid k d t)
   done d t out k n l h =
       let g : leb (length (laid k d t)) (length out) ≡ true = rw l.whole (le-leb (n + 3) (length out) h) in
-      let q : ◌≡◌ {A = Written} (record { number = 0; len = length (laid k d t) }) (record { number = 0; len = n + 3 }) =
-      ap (λ (j : ℕ). record { number = 0; len = j }) l.whole in
       record {
-        answer = rw (l.bytes, g) q;
+        answer = rw (l.bytes, g, l.whole);
         buffer = rw (l.bytes, g);
       }
 
   pub record Short (d : Fields) (t out : List ℕ) : Type 0 where
-    pub answer : answer_of (record_in v d t) (length out) ≡ record { number = ROOM; len = 0 }
+    pub answer : answer_of (record_in v d t) (length out) ≡ Err error.Room
     pub buffer : buffer_of (record_in v d t) out ≡ out
 
   pub short : (d : Fields) (t out : List ℕ) (k : Kind) (n : ℕ) → Laid d t k n → length out < n + 3 → Short d t out
@@ -245,7 +231,7 @@ module _ (v : Version) where
       }
 
   -- s is the size of a kind's fields, and they have n bytes
-  module _ (d : Fields) (t : List ℕ) (k : Kind) (s : Size) (f : s ≡ fields_size v 0 (fields_of v k) d t) (n : ℕ) (b : s ≡ Bytes n) where
+  module _ (d : Fields) (t : List ℕ) (k : Kind) (s : Option ℕ) (f : s ≡ fields_size v 0 (fields_of v k) d t) (n : ℕ) (b : s ≡ Some n) where
     measured : (givable_all v (fields_of v k) d t ≡ true) × (0 + length (fields_bytes v (fields_of v k) d t) ≡ n)
     unfolding fields_size
     measured = sizes (givable_all v (fields_of v k) d t) (0 + length (fields_bytes v (fields_of v k) d t)) n (sym b ∙ f)
@@ -259,34 +245,34 @@ module _ (v : Version) where
     fields_room out m₁ m₂ p q h = omega (arith, measured.1)
 
   -- as the code answers: x is what the kind's byte names, and s the size of its fields
-  module _ (d : Fields) (t : List ℕ) (x : Named) (e : x ≡ named v d.kind) where
-    pub no_kind_answer : (room : ℕ) → x ≡ a.Unknown → record { number = BAD; len = 0 } ≡ answer_of (record_in v d t) room
+  module _ (d : Fields) (t : List ℕ) (x : Option Kind) (e : x ≡ kind_numbered v d.kind) where
+    pub no_kind_answer : (room : ℕ) → x ≡ None → Err error.Unfit ≡ answer_of (record_in v d t) room
     no_kind_answer room u = rw (unknown d t (sym u ∙ e))
 
-    pub no_kind_buffer : (out : List ℕ) → x ≡ a.Unknown → out ≡ buffer_of (record_in v d t) out
+    pub no_kind_buffer : (out : List ℕ) → x ≡ None → out ≡ buffer_of (record_in v d t) out
     no_kind_buffer out u = rw (unknown d t (sym u ∙ e))
 
-    module _ (k : Kind) (u : x ≡ a.Kind k) (s : Size) (f : s ≡ fields_size v 0 (fields_of v k) d t) where
-      pub no_size_answer : (room : ℕ) → s ≡ Bad → record { number = BAD; len = 0 } ≡ answer_of (record_in v d t) room
+    module _ (k : Kind) (u : x ≡ Some k) (s : Option ℕ) (f : s ≡ fields_size v 0 (fields_of v k) d t) where
+      pub no_size_answer : (room : ℕ) → s ≡ None → Err error.Unfit ≡ answer_of (record_in v d t) room
       no_size_answer room b = rw (refused d t k (sym u ∙ e) (sym b ∙ f))
 
-      pub no_size_buffer : (out : List ℕ) → s ≡ Bad → out ≡ buffer_of (record_in v d t) out
+      pub no_size_buffer : (out : List ℕ) → s ≡ None → out ≡ buffer_of (record_in v d t) out
       no_size_buffer out b = rw (refused d t k (sym u ∙ e) (sym b ∙ f))
 
-      module _ (n : ℕ) (b : s ≡ Bytes n) where
+      module _ (n : ℕ) (b : s ≡ Some n) where
         laid_in : Laid d t k n
         laid_in = laid_out d t k n (sym u ∙ e) (sym b ∙ f)
 
         -- m₁ is the buffer after the length, m₂ after the kind, and out' after the fields
         module _ (out : List ℕ) where
-          pub no_room_answer : length out < n + 3 → record { number = ROOM; len = 0 } ≡ answer_of (record_in v d t) (length out)
+          pub no_room_answer : length out < n + 3 → Err error.Room ≡ answer_of (record_in v d t) (length out)
           no_room_answer h = sym (short d t out k n laid_in h).answer
 
           pub no_room_buffer : length out < n + 3 → out ≡ buffer_of (record_in v d t) out
           no_room_buffer h = sym (short d t out k n laid_in h).buffer
 
           module _ (h : n + 3 ≤ length out) where
-            pub whole_answer : record { number = 0; len = n + 3 } ≡ answer_of (record_in v d t) (length out)
+            pub whole_answer : Ok (n + 3) ≡ answer_of (record_in v d t) (length out)
             whole_answer = sym (done d t out k n laid_in h).answer
 
             pub whole_buffer : (m₁ m₂ out' : List ℕ) → m₁ ≡ over 0 (bytes_of 2 (n + 1)) out → m₂ ≡ over 2 (bytes_of 1 d.kind) m₁
@@ -295,7 +281,7 @@ module _ (v : Version) where
                 r ∙ ap (over 3 (fields_bytes v (fields_of v k) d t)) (q ∙ ap (over 2 (bytes_of 1 d.kind)) p) ∙ pieces d t k n out laid_in.len h
                 ∙ sym (done d t out k n laid_in h).buffer
 
-pub len_fits : (s : Size) (n : ℕ) → s ≡ Bytes n → IsSized s → Fits w64 (n + 3)
+pub len_fits : (s : Option ℕ) (n : ℕ) → s ≡ Some n → IsSized s → Fits w64 (n + 3)
 len_fits s n b m = let h : n ≤ 7182 = rw b at m in record { fits = omega arith }
 
 pub ruleset puts = (put_step, all_put, next_room, next_given, put_start, rules)

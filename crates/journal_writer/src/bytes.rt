@@ -9,10 +9,8 @@ pub(crate) fn put_number(out: &mut [u8], at: usize, w: usize, n: u64)
     ensures { out.new ≡ over at (bytes_of w n) out.old }
 {
     let mut rest = n;
-    let mut i = w;
-    while 0 < i {
-        i -= 1;
-        let p = at + i;
+    for i in 0..w {
+        let p = at + (w - 1 - i);
         out[p] = (rest % 256) as u8;
         rest = rest / 256;
     }
@@ -23,10 +21,6 @@ pub(crate) fn put_bytes(out: &mut [u8], at: usize, s: &[u8])
     requires { at + length s.now ≤ length out.old }
     ensures { out.new ≡ over at s.now out.old }
 {
-    let mut i = 0;
-    while i < s.len() {
-        let p = at + i;
-        out[p] = s[i];
-        i += 1;
-    }
+    let end = at + s.len();
+    out[at..end].copy_from_slice(s);
 }

@@ -7,14 +7,12 @@ ghost use Rattle.journal.specs.Writes.{over, text_bytes, record_in, record_of, a
 
 use super::bytes::{put_bytes, put_number};
 use amount::Cap;
-use journal::{
-    Field, Fields, Kind, Named, Size, Start, Version, Written, field_count, fields_of, kind_named,
-    text_most, text_width, version_named,
-};
-use rules::numbers::{BAD, ROOM};
+use journal::{Field, Fields, Kind, Version, WriteError};
 
+#[tactic(auto, using(crate::proofs::SizeLaws::lengths))]
 fn cap_size(cap: Cap) -> usize
-    ensures { (result ≡ length (cap_bytes cap)) × (result ≤ 9) }
+    ensures value { result ≡ length (cap_bytes cap) }
+    ensures small { result ≤ 9 }
 {
     match cap {
         Cap::Unlimited => 1,
@@ -22,62 +20,49 @@ fn cap_size(cap: Cap) -> usize
     }
 }
 
-// How many bytes a field takes, or that the reader cannot give it.
-fn field_size(v: Version, f: Field, d: Fields, text: &[u8]) -> Size
-    ensures { (result ≡ field_size v f d text.now) × IsSmall result }
+// How many bytes a field takes, where the reader can give it.
+#[tactic(auto, using(crate::proofs::SizeLaws::lengths), unfolding(journal::specs::Writes::field_size, journal::specs::Writes::field_bytes, journal::specs::Fields::encode))]
+fn field_size(v: Version, f: Field, d: Fields, text: &[u8]) -> Option<usize>
+    ensures value { result ≡ field_size v f d text.now }
+    ensures small { IsSmall result }
 {
     match f {
-        Field::Account => Size::Bytes(32),
-        Field::No => Size::Bytes(4),
-        Field::Slot => Size::Bytes(1),
-        Field::K => Size::Bytes(1),
-        Field::M => Size::Bytes(1),
+        Field::Account | Field::Hash => Some(32),
+        Field::No => Some(4),
+        Field::Slot | Field::K | Field::M => Some(1),
+        Field::Amount | Field::From | Field::Until => Some(8),
         Field::Text => {
-            if text_most(v) < text.len() as u64 {
-                return Size::Bad;
+            if v.text_most() < text.len() as u64 {
+                return None;
             }
-            Size::Bytes(text_width(v) + text.len())
+            Some(v.text_width() + text.len())
         }
-        Field::Amount => Size::Bytes(8),
-        Field::Hash => Size::Bytes(32),
         Field::Mode => {
             if 2 < d.mode {
-                return Size::Bad;
+                return None;
             }
-            Size::Bytes(1)
+            Some(1)
         }
-        Field::Cap => {
-            let cap = d.cap;
-            Size::Bytes(cap_size(cap))
-        }
-        Field::From => Size::Bytes(8),
-        Field::Until => Size::Bytes(8),
-        Field::None => Size::Bytes(0),
+        Field::Cap => Some(cap_size(d.cap)),
     }
 }
 
-// How many bytes the kind's fields take.
-fn measure(v: Version, kind: Kind, d: Fields, text: &[u8]) -> Size
-    ensures { (result ≡ fields_size v 0 (fields_of v kind) d text.now) × IsSized result }
+// How many bytes the kind's fields take, where the reader can give them.
+fn measure(v: Version, kind: Kind, d: Fields, text: &[u8]) -> Option<usize>
+    ensures value { result ≡ fields_size v 0 (fields_of v kind) d text.now }
+    ensures sized { IsSized result }
 {
-    let fields = fields_of(v, kind);
-    let count = field_count(v, kind);
     let mut n: usize = 0;
-    let mut i: usize = 0;
-    while i < count {
-        let f = fields[i];
-        let Size::Bytes(k) = field_size(v, f, d, text) else {
-            return Size::Bad;
-        };
-        n += k;
-        i += 1;
+    for f in v.fields_of(kind) {
+        n += field_size(v, *f, d, text)?;
     }
-    Size::Bytes(n)
+    Some(n)
 }
 
 fn put_value(out: &mut [u8], at: usize, w: usize, n: u64) -> usize
     requires { at + w ≤ length out.old }
-    ensures { (result ≡ at + w) × (out.new ≡ over at (bytes_of w n) out.old) }
+    ensures place { result ≡ at + w }
+    ensures buffer { out.new ≡ over at (bytes_of w n) out.old }
 {
     put_number(out, at, w, n);
     at + w
@@ -85,26 +70,29 @@ fn put_value(out: &mut [u8], at: usize, w: usize, n: u64) -> usize
 
 fn put_block(out: &mut [u8], at: usize, b: &[u8; 32]) -> usize
     requires { at + 32 ≤ length out.old }
-    ensures { (result ≡ at + 32) × (out.new ≡ over at b.now out.old) }
+    ensures place { result ≡ at + 32 }
+    ensures buffer { out.new ≡ over at b.now out.old }
 {
     put_bytes(out, at, b);
     at + 32
 }
 
+#[tactic(auto, using(crate::proofs::OverLaws::pieces))]
 fn put_text(v: Version, out: &mut [u8], at: usize, text: &[u8]) -> usize
     requires { at + (text_width v + length text.now) ≤ length out.old }
-    ensures { (result ≡ at + (text_width v + length text.now)) × (out.new ≡ over at (text_bytes v text.now) out.old) }
+    ensures place { result ≡ at + (text_width v + length text.now) }
+    ensures buffer { out.new ≡ over at (text_bytes v text.now) out.old }
 {
-    let w = text_width(v);
-    put_number(out, at, w, text.len() as u64);
-    let next = at + w;
+    let next = put_value(out, at, v.text_width(), text.len() as u64);
     put_bytes(out, next, text);
     next + text.len()
 }
 
+#[tactic(auto, using(crate::proofs::OverLaws::pieces))]
 fn put_cap(out: &mut [u8], at: usize, cap: Cap) -> usize
     requires { at + length (cap_bytes cap) ≤ length out.old }
-    ensures { (result ≡ at + length (cap_bytes cap)) × (out.new ≡ over at (cap_bytes cap) out.old) }
+    ensures place { result ≡ at + length (cap_bytes cap) }
+    ensures buffer { out.new ≡ over at (cap_bytes cap) out.old }
 {
     match cap {
         Cap::Unlimited => put_value(out, at, 1, 0),
@@ -116,84 +104,75 @@ fn put_cap(out: &mut [u8], at: usize, cap: Cap) -> usize
 }
 
 // One field at its place; the place after it.
+#[tactic(auto, using(crate::proofs::SizeLaws::lengths), unfolding(journal::specs::Writes::field_bytes, journal::specs::Fields::encode))]
 fn put_field(v: Version, out: &mut [u8], at: usize, f: Field, d: Fields, text: &[u8]) -> usize
-    requires { (at + length (field_bytes v f d text.now) ≤ length out.old) × (givable v f d text.now ≡ true) }
-    ensures { (result ≡ at + length (field_bytes v f d text.now)) × (out.new ≡ over at (field_bytes v f d text.now) out.old) }
+    requires room { at + length (field_bytes v f d text.now) ≤ length out.old }
+    requires given { givable v f d text.now ≡ true }
+    ensures place { result ≡ at + length (field_bytes v f d text.now) }
+    ensures buffer { out.new ≡ over at (field_bytes v f d text.now) out.old }
 {
-    let account = d.account;
-    let hash = d.hash;
-    let cap = d.cap;
     match f {
-        Field::Account => put_block(out, at, &account),
+        Field::Account => put_block(out, at, &d.account),
         Field::No => put_value(out, at, 4, d.no as u64),
         Field::Slot => put_value(out, at, 1, d.slot as u64),
         Field::K => put_value(out, at, 1, d.k as u64),
         Field::M => put_value(out, at, 1, d.m as u64),
         Field::Text => put_text(v, out, at, text),
         Field::Amount => put_value(out, at, 8, d.amount),
-        Field::Hash => put_block(out, at, &hash),
+        Field::Hash => put_block(out, at, &d.hash),
         Field::Mode => put_value(out, at, 1, d.mode as u64),
-        Field::Cap => put_cap(out, at, cap),
+        Field::Cap => put_cap(out, at, d.cap),
         Field::From => put_value(out, at, 8, d.from),
         Field::Until => put_value(out, at, 8, d.until),
-        Field::None => at,
     }
 }
 
 // The kind's fields, one after another from a place on.
 fn put_fields(v: Version, out: &mut [u8], start: usize, kind: Kind, d: Fields, text: &[u8])
-    requires { (start + length (fields_bytes v (fields_of v kind) d text.now) ≤ length out.old) × (givable_all v (fields_of v kind) d text.now ≡ true) }
+    requires room { start + length (fields_bytes v (fields_of v kind) d text.now) ≤ length out.old }
+    requires given { givable_all v (fields_of v kind) d text.now ≡ true }
     ensures { out.new ≡ over start (fields_bytes v (fields_of v kind) d text.now) out.old }
 {
-    let fields = fields_of(v, kind);
-    let count = field_count(v, kind);
     let mut at = start;
-    let mut i: usize = 0;
-    while i < count {
-        let f = fields[i];
-        at = put_field(v, out, at, f, d, text);
-        i += 1;
+    for f in v.fields_of(kind) {
+        at = put_field(v, out, at, *f, d, text);
     }
 }
 
 // The record of a version with its length before it, at the front of the buffer.
-fn write_in(v: Version, d: Fields, text: &[u8], out: &mut [u8]) -> Written
-    ensures { (result ≡ answer_of (record_in v d text.now) (length out.old)) × (out.new ≡ buffer_of (record_in v d text.now) out.old) }
+fn write_in(v: Version, d: Fields, text: &[u8], out: &mut [u8]) -> Result<usize, WriteError>
+    ensures answer { result ≡ answer_of (record_in v d text.now) (length out.old) }
+    ensures buffer { out.new ≡ buffer_of (record_in v d text.now) out.old }
 {
-    let Named::Kind(kind) = kind_named(v, d.kind) else {
-        return Written {
-            number: BAD,
-            len: 0,
-        };
+    let Some(kind) = v.kind_numbered(d.kind) else {
+        return Err(WriteError::Unfit);
     };
-    let Size::Bytes(n) = measure(v, kind, d, text) else {
-        return Written {
-            number: BAD,
-            len: 0,
-        };
+    let Some(n) = measure(v, kind, d, text) else {
+        return Err(WriteError::Unfit);
     };
     let len = n + 3;
     if out.len() < len {
-        return Written {
-            number: ROOM,
-            len: 0,
-        };
+        return Err(WriteError::Room);
     }
     put_number(out, 0, 2, (n + 1) as u64);
     put_number(out, 2, 1, d.kind as u64);
     put_fields(v, out, 3, kind, d, text);
-    Written { number: 0, len }
+    Ok(len)
 }
 
-// A record of the version of that number. The bytes after it stay, and a refusal writes nothing.
-pub fn write_record(version: u8, d: Fields, text: &[u8], out: &mut [u8]) -> Written
-    ensures { (result ≡ answer_of (record_of version d text.now) (length out.old)) × (out.new ≡ buffer_of (record_of version d text.now) out.old) }
+// A record of the version of that number: how many bytes it takes with its length. The bytes after it stay, and a refusal writes
+// nothing.
+pub fn write_record(
+    version: u8,
+    d: Fields,
+    text: &[u8],
+    out: &mut [u8],
+) -> Result<usize, WriteError>
+    ensures answer { result ≡ answer_of (record_of version d text.now) (length out.old) }
+    ensures buffer { out.new ≡ buffer_of (record_of version d text.now) out.old }
 {
-    let Start::Records(v) = version_named(version) else {
-        return Written {
-            number: BAD,
-            len: 0,
-        };
+    let Ok(v) = Version::try_from(version) else {
+        return Err(WriteError::Unfit);
     };
     write_in(v, d, text, out)
 }

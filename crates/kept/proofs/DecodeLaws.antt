@@ -8,7 +8,7 @@ use borrow.Author.Rules.{rules}
 use lib.ListN.{get_or, get_or-eq_default, length-take, length-map, length, take, drop, replicate, drop_of_length-le, length-drop}
 use lib.Seq.{take-nil, take_all}
 use Rattle.lists.specs.ByteLoopLaws.{FillLoop, fill_start}
-use Rattle.text.specs.declared.Text.{Text}
+use Rattle.text.specs.Text.{Text}
 use Rattle.text.specs.Text.{path_limit, to_text, text_bytes}
 use Rattle.rules.specs.declared.Token.{Token}
 use Rattle.rules.specs.declared.Entry.{Entry}

@@ -1,7 +1,7 @@
 -- Rows whose texts are places in a journal, and the rows of the desk that they stand for. j is the bytes of the journal. Assumes nothing.
 use Rattle.std.specs.Prelude.{List, map, ℕ, take, drop, replicate}
 use Rattle.amount.specs.declared.Cap.TheVariants.{Bytes}
-use Rattle.text.specs.declared.Text.{Text}
+use Rattle.text.specs.Text.{Text}
 use Rattle.text.specs.Text.{path_limit, to_text}
 use Rattle.rules.specs.declared.Mode.TheVariants.{Read}
 use Rattle.rules.specs.declared.Token.{Token}

@@ -6,7 +6,7 @@ ghost use Rattle.kept.specs.Kept.{bytes_in, text_in, token_in, entry_in, put_in,
 use super::fresh::fresh_kept_session;
 use super::{KeptEntry, KeptPut, KeptSession, KeptToken};
 use rules::{Entry, Put, Scope, Session, Token};
-use text::{Text, to_text};
+use text::Text;
 
 // The bytes from a place on, as far as the journal has them.
 pub fn bytes_in(journal: &[u8], at: usize, len: usize) -> &[u8]
@@ -27,8 +27,7 @@ pub fn bytes_in(journal: &[u8], at: usize, len: usize) -> &[u8]
 pub fn text_in(journal: &[u8], at: usize, len: usize) -> Text
     ensures { result ≡ text_in journal.now at len }
 {
-    let bytes = bytes_in(journal, at, len);
-    to_text(bytes)
+    Text::truncated(bytes_in(journal, at, len))
 }
 
 // The bytes of that text, in the journal.
@@ -100,11 +99,9 @@ pub fn session_in(journal: &[u8], s: KeptSession) -> Session
     let kept = s.puts;
     let none = rules::fresh_put();
     let mut puts = [none; 8];
-    let mut i: usize = 0;
-    while i < 8 {
+    for i in 0..8 {
         let p = kept[i];
         puts[i] = put_in(journal, p);
-        i += 1;
     }
     let token = s.token;
     let volume = s.volume;
@@ -132,11 +129,9 @@ pub fn slots_in(journal: &[u8], slots: [KeptSession; 4]) -> [Session; 4]
 {
     let none = rules::fresh_session();
     let mut sessions = [none; 4];
-    let mut i: usize = 0;
-    while i < 4 {
+    for i in 0..4 {
         let s = slots[i];
         sessions[i] = session_in(journal, s);
-        i += 1;
     }
     sessions
 }
@@ -146,11 +141,9 @@ pub fn tokens_in(journal: &[u8], rows: [KeptToken; 32]) -> [Token; 32]
 {
     let none = rules::fresh_token();
     let mut tokens = [none; 32];
-    let mut i: usize = 0;
-    while i < 32 {
+    for i in 0..32 {
         let k = rows[i];
         tokens[i] = token_in(journal, k);
-        i += 1;
     }
     tokens
 }
@@ -160,11 +153,9 @@ pub fn entries_in(journal: &[u8], rows: [KeptEntry; 64]) -> [Entry; 64]
 {
     let none = rules::fresh_entry();
     let mut entries = [none; 64];
-    let mut i: usize = 0;
-    while i < 64 {
+    for i in 0..64 {
         let k = rows[i];
         entries[i] = entry_in(journal, k);
-        i += 1;
     }
     entries
 }

@@ -1,10 +1,9 @@
 -- Delete, over kept tokens. j is the bytes of the journal, and t has the parts that were read. Assumes nothing.
+use Rattle.std.specs.Prelude.{Option, Some, None}
 use mathlib.Core.Path.{◌≡◌, sym, ◌∙◌}
 use mathlib.Core.List.{List}
 use Prim.Native.Nat.{ℕ}
 use lib.ListN.{get_or, set}
-use Rattle.lists.specs.declared.Found.{Found}
-use Rattle.lists.specs.declared.Found.TheVariants.{At, Nothing}
 use Rattle.lists.specs.Lists.{hit, first_at}
 use Rattle.lists.specs.SearchLaws.{first_row_lem, first_miss}
 use Rattle.rules.specs.declared.Account.{Account}
@@ -37,13 +36,13 @@ module _ (j : List ℕ) (t : Tables) (vs : List Volume) (ks : List KeptToken) (v
   delete_accepts clock i x old w out c e q g = rw (e, q, g j, ← k, ← v, ← c)
 
   -- f is what the search for the volume n said
-  module _ (n : VolumeNo) (a : Account) (f : Found) (e : f ≡ first_at (is_volume n) 0 vs) (r : KeptDelete) where
-    pub delete_none : f ≡ Nothing → r ≡ not_deleted vs ks NO_VOLUME → on_kept_delete j t r ≡ delete_rule a n t
+  module _ (n : VolumeNo) (a : Account) (f : Option ℕ) (e : f ≡ first_at (is_volume n) 0 vs) (r : KeptDelete) where
+    pub delete_none : f ≡ None → r ≡ not_deleted vs ks NO_VOLUME → on_kept_delete j t r ≡ delete_rule a n t
     unfolding delete_rule delete_in volume_of
     delete_none w q =
         delete_refuses r NO_VOLUME q ∙ sym (rw (v, first_miss (is_volume n) vs (sym e ∙ w)))
 
-    pub delete_found : (i clock : ℕ) → f ≡ At i → t.clock ≡ clock
+    pub delete_found : (i clock : ℕ) → f ≡ Some i → t.clock ≡ clock
         → ((b : List ℕ) (u : Tables) → u.clock ≡ clock → u.volumes ≡ vs → u.tokens ≡ tokens_in b ks → on_kept_delete b u r ≡ delete_in u a (hit i (get_or vs i blank_volume)))
         → on_kept_delete j t r ≡ delete_rule a n t
     unfolding delete_rule volume_of

@@ -1,4 +1,5 @@
 -- Look, over kept tokens and kept entries. j is the bytes of the journal. Assumes nothing.
+use Rattle.std.specs.Prelude.{Option, Some, None}
 use mathlib.Core.Path.{◌≡◌, sym, ◌∙◌}
 use mathlib.Core.Bool.{Bool, true, false, not, cond}
 use mathlib.Core.List.{List}
@@ -8,8 +9,6 @@ use mir.Val.{Fits}
 use mir.Syntax.{w64}
 use lib.Dec.{ltb}
 use lib.ListN.{length, get_or, get_or-map}
-use Rattle.lists.specs.declared.Found.{Found}
-use Rattle.lists.specs.declared.Found.TheVariants.{At, Nothing}
 use Rattle.lists.specs.Lists.{find, first_at, hit, miss}
 use Rattle.lists.specs.AnswerLaws.{row_in, row_fits_lem}
 use Rattle.lists.specs.ByteLoopLaws.{length_mapped}
@@ -37,7 +36,7 @@ pub look_refuses : (t : Tables) (r : Answer) (n : ℕ) → r ≡ refusal n → u
 look_refuses t r n e = rw e
 
 -- the row i that was found lies in the table of the 64 entries, and its place in memory is a number of the machine
-module _ (j : List ℕ) (p : Entry → Bool) (es : List KeptEntry) (f : Found) (i : ℕ) (e : f ≡ first_at p 0 (entries_in j es)) (w : f ≡ At i) (h : length es ≡ 64) where
+module _ (j : List ℕ) (p : Entry → Bool) (es : List KeptEntry) (f : Option ℕ) (i : ℕ) (e : f ≡ first_at p 0 (entries_in j es)) (w : f ≡ Some i) (h : length es ≡ 64) where
   pub entry_in_lem : i < 64
   entry_in_lem = row_in p (entries_in j es) f i 64 e w (length_mapped (entry_in j) es 64 h)
 
@@ -46,14 +45,14 @@ module _ (j : List ℕ) (p : Entry → Bool) (es : List KeptEntry) (f : Found) (
 
 module _ (j : List ℕ) (t : Tables) (clock : ℕ) (es : List KeptEntry) (c : t.clock ≡ clock) (v : t.entries ≡ entries_in j es) (path : List ℕ) (k : Token) (r : Answer) where
   -- f is what the search for the entry said
-  module _ (f : Found) (e : f ≡ first_at (is_entry k.volume path) 0 (entries_in j es)) where
-    pub entry_absent : (x : Entry) → f ≡ Nothing
+  module _ (f : Option ℕ) (e : f ≡ first_at (is_entry k.volume path) 0 (entries_in j es)) where
+    pub entry_absent : (x : Entry) → f ≡ None
         → ((u : Tables) (m : ℕ) → u.clock ≡ clock → entry_of k.volume path u ≡ cond false (hit m x) miss → unchanged u r ≡ look_in u path (hit 0 k))
         → unchanged t r ≡ look_in t path (hit 0 k)
     unfolding entry_of
     entry_absent x w g = g t 0 c (rw v (first_miss (is_entry k.volume path) (entries_in j es) (sym e ∙ w)))
 
-    pub entry_present : (i : ℕ) (d : KeptEntry) (x : Entry) → f ≡ At i → x ≡ entry_in j (get_or es i d)
+    pub entry_present : (i : ℕ) (d : KeptEntry) (x : Entry) → f ≡ Some i → x ≡ entry_in j (get_or es i d)
         → ((u : Tables) (m : ℕ) → u.clock ≡ clock → entry_of k.volume path u ≡ cond true (hit m x) miss → unchanged u r ≡ look_in u path (hit 0 k))
         → unchanged t r ≡ look_in t path (hit 0 k)
     unfolding entry_of

@@ -1,6 +1,7 @@
 // Delete, where the tokens are kept rows.
 ghost use Rattle.std.specs.Prelude.{◌≡◌, List, ℕ, ◌<◌, get_or};
 ghost use Rattle.lists.specs.Lists.{hit};
+ghost use Rattle.rules.specs.Numbers.{refusal_number};
 ghost use Rattle.rules.specs.declared.Tables.{Tables};
 ghost use Rattle.rules.specs.VolumeCalls.{delete_in, delete_rule};
 ghost use Rattle.rows.specs.Blank.{blank_volume};
@@ -10,15 +11,13 @@ ghost use Rattle.kept_calls.specs.Parts.{on_kept_delete, not_deleted};
 use super::KeptDelete;
 use kept::KeptToken;
 use kept_tokens::drop_kept;
-use lists::Found;
-use rows::{find_volume, is_open, owned_by};
-use rules::numbers::{NO_VOLUME, NOT_OWNER, STATE};
-use rules::{Account, Status, Volume, VolumeNo};
+use rows::{find_row, is_open, owned_by};
+use rules::{Account, Refusal, Status, Volume, VolumeNo};
 use volumes::with_status;
 
 // A refusal leaves both tables as they are.
-fn refuse(volumes: [Volume; 8], tokens: [KeptToken; 32], n: u32) -> KeptDelete
-    ensures { result ≡ not_deleted volumes tokens n }
+fn refuse(volumes: [Volume; 8], tokens: [KeptToken; 32], n: Refusal) -> KeptDelete
+    ensures { result ≡ not_deleted volumes tokens (refusal_number n) }
 {
     let answer = rules::refusal(n);
     KeptDelete {
@@ -42,11 +41,11 @@ fn delete_at(
     let v = volumes[i];
     let status = v.status;
     let no = v.no;
-    if !owned_by(v, a) {
-        return refuse(volumes, tokens, NOT_OWNER);
+    if !owned_by(&v, a) {
+        return refuse(volumes, tokens, Refusal::NotOwner);
     }
     if !is_open(status) {
-        return refuse(volumes, tokens, STATE);
+        return refuse(volumes, tokens, Refusal::State);
     }
     let mut rows = volumes;
     rows[i] = with_status(v, Status::Deleted, v.grace, clock);
@@ -69,8 +68,8 @@ pub fn delete_kept(
 ) -> KeptDelete
     ensures { (j : List ℕ) (t : Tables) → t.clock ≡ clock → t.volumes ≡ volumes → t.tokens ≡ tokens_in j tokens → on_kept_delete j t result ≡ delete_rule a n t }
 {
-    let Found::At(i) = find_volume(volumes, n) else {
-        return refuse(volumes, tokens, NO_VOLUME);
+    let Some(i) = find_row(&volumes, n) else {
+        return refuse(volumes, tokens, Refusal::NoVolume);
     };
     delete_at(clock, volumes, tokens, a, i)
 }

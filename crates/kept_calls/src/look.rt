@@ -12,9 +12,7 @@ ghost use Rattle.kept_entries.specs.KeptEntries.{entries_in};
 use kept::{KeptEntry, KeptToken, entry_in};
 use kept_entries::find_kept_entry;
 use kept_tokens::row_in;
-use lists::Found;
-use rules::numbers::{BAD, NO_TOKEN};
-use rules::{Answer, Token, TokenNo, fresh_entry, refusal};
+use rules::{Answer, Refusal, Token, TokenNo, fresh_entry, refusal};
 use text::path::is_path;
 use tokens::look_token;
 
@@ -23,7 +21,7 @@ fn look_in(journal: &[u8], clock: u64, entries: [KeptEntry; 64], k: Token, path:
     ensures { (t : Tables) → t.clock ≡ clock → t.entries ≡ entries_in journal.now entries → unchanged t result ≡ look_in t path.now (hit 0 k) }
 {
     let n = k.volume;
-    let Found::At(i) = find_kept_entry(journal, entries, n, path) else {
+    let Some(i) = find_kept_entry(journal, entries, n, path) else {
         let none = fresh_entry();
         return look_token(clock, k, false, none, path);
     };
@@ -44,10 +42,10 @@ fn look_row(
     ensures { (t : Tables) → t.clock ≡ clock → t.entries ≡ entries_in journal.now entries → unchanged t result ≡ look_found t path.now (row_if there k) }
 {
     if !is_path(path) {
-        return refusal(BAD);
+        return refusal(Refusal::Bad);
     }
     if !there {
-        return refusal(NO_TOKEN);
+        return refusal(Refusal::NoToken);
     }
     look_in(journal, clock, entries, k, path)
 }

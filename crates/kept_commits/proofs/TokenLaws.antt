@@ -1,4 +1,5 @@
 -- The loops over a table of kept tokens: their limits, a token's family, and the rows that are charged. Assumes nothing.
+use Rattle.std.specs.Prelude.{Option, Some}
 use mathlib.Core.Path.{◌≡◌, refl, sym, ◌∙◌}
 use mathlib.Core.Bool.{Bool, true, false, cond}
 use mathlib.Core.List.{List, map}
@@ -6,8 +7,6 @@ use Prim.Native.Nat.{ℕ, ◌+◌, ◌<◌, ◌≤◌, ◌^◌, min}
 use native.Mathlib.Omega.{arith}
 use borrow.Author.Tests.{leb-true, ne_eqb, lt-leb, le-leb}
 use lib.ListN.{length, get_or, set, take, replicate, length-map, get_or-map}
-use Rattle.lists.specs.declared.Found.{Found}
-use Rattle.lists.specs.declared.Found.TheVariants.{At}
 use Rattle.lists.specs.Lists.{all_of, any_of, first_at}
 use Rattle.lists.specs.TestLaws.{all_at, at_none}
 use Rattle.lists.specs.LoopLaws.{AllLoop, all_failed, all_step}
@@ -59,8 +58,8 @@ module _ (j ns : List ℕ) (rows : List KeptToken) (k : Token) where
   pub kept_start : (p : ℕ) → ns ≡ map kept_number rows → p ≡ k.parent.0 → FamilyLoop ns (tokens_in j rows) k (replicate 8 k) 1 p
   kept_start p e q = family_start ns (tokens_in j rows) k p (numbers_in j rows ns e) q
 
-  pub kept_next_lem : (kept : List Token) (n p : ℕ) (f : Found) (i m : ℕ) (d : KeptToken) (x : Token) → FamilyLoop ns (tokens_in j rows) k kept n p
-      → f ≡ first_at (numbered p) 0 ns → n < 8 → f ≡ At i → x ≡ token_in j (get_or rows i d) → m ≡ (get_or rows i d).parent.0
+  pub kept_next_lem : (kept : List Token) (n p : ℕ) (f : Option ℕ) (i m : ℕ) (d : KeptToken) (x : Token) → FamilyLoop ns (tokens_in j rows) k kept n p
+      → f ≡ first_at (numbered p) 0 ns → n < 8 → f ≡ Some i → x ≡ token_in j (get_or rows i d) → m ≡ (get_or rows i d).parent.0
       → FamilyLoop ns (tokens_in j rows) k (set kept n x) (n + 1) m
   kept_next_lem kept n p f i m d x h e l w y g =
       family_next ns (tokens_in j rows) k kept n p h f e i m (token_in j d) x l w (y ∙ sym (get_or-map (token_in j) rows i d)) (rw y g)

@@ -1,9 +1,10 @@
 -- The verdict on a commit, by what was read of the kept tables. Assumes nothing.
+use Rattle.std.specs.Prelude.{Result, Ok, Err, ⊤}
 use mathlib.Core.Path.{◌≡◌, refl, sym, ◌∙◌}
 use mathlib.Core.Bool.{Bool, true, false, not, cond}
 use mathlib.Core.List.{List, []}
 use Prim.Native.Nat.{ℕ, ◌<◌, ◌≤◌}
-use borrow.Author.Tests.{ne_eqb, not-true, not-false}
+use borrow.Author.Tests.{not-true, not-false}
 use lib.ListN.{take}
 use Rattle.lists.specs.Lists.{Hit, hit, miss, find, all_of}
 use Rattle.lists.specs.AnswerLaws.{NoRow, AtRow, no_row, at_row}
@@ -14,7 +15,8 @@ use Rattle.rules.specs.declared.Token.{Token}
 use Rattle.rules.specs.declared.Relay.{Relay}
 use Rattle.rules.specs.declared.Session.{Session}
 use Rattle.rules.specs.declared.Tables.{Tables}
-use Rattle.rules.specs.Numbers.{NO_TOKEN}
+use Rattle.rules.specs.Numbers.{NO_TOKEN, answer_number}
+use Rattle.rules.specs.declared.refusals.Refusal.{Refusal}
 use Rattle.rules.specs.Tables.{is_volume, is_token}
 use Rattle.rules.specs.Scope.{family}
 use Rattle.rows.specs.Blank.{blank_volume}
@@ -22,9 +24,9 @@ use Rattle.rows.specs.Links.{row_if}
 use Rattle.surveys.specs.RowLimits.{token_within}
 use Rattle.surveys.specs.Survey.{Surveyed}
 use Rattle.first_checks.specs.Early.{token_fault, early_token, early_volume, early_number}
-use Rattle.commits.specs.declared.Verdict.{Verdict}
+use Rattle.commits.specs.declared.Plan.{Plan}
 use Rattle.commits.specs.Within.{commit_within}
-use Rattle.commits.specs.Verdicts.{no_plan, Judged, JudgedIn, judged_refusal}
+use Rattle.commits.specs.Verdicts.{Judged, JudgedIn, refusal_given, judged_refusal}
 use Rattle.kept.specs.declared.KeptEntry.{KeptEntry}
 use Rattle.kept.specs.declared.KeptSession.{KeptSession}
 use Rattle.kept.specs.declared.KeptToken.{KeptToken}
@@ -71,30 +73,31 @@ module _ (clock : ℕ) (volumes : List Volume) (s : KeptSession) (there : Bool) 
   unfolding early_row early_number
   row_same ts f = rw (at_same (find (is_volume s.volume) volumes) ts f)
 
--- ---- the verdict x, where n is the number of the first checks
+-- ---- the verdict x, where n is what the first checks say
 
 module _ (j : List ℕ) (t : Tables) (clock : ℕ) (volumes : List Volume) (tokens : List KeptToken) (s : KeptSession) (ec : t.clock ≡ clock) (ev : t.volumes ≡ volumes)
-    (et : t.tokens ≡ tokens_in j tokens) (there : Bool) (i : ℕ) (k : Token) (n : ℕ) (x : Verdict)
+    (et : t.tokens ≡ tokens_in j tokens) (there : Bool) (i : ℕ) (k : Token) (n : Result ⊤ Refusal) (x : Result Plan Refusal)
     (f : find (is_token s.token) (tokens_in j tokens) ≡ cond there (hit i k) miss)
-    (e : n ≡ early_row clock volumes (session_in [] s) (row_if there k)) where
-  early_number_lem : n ≡ early_number t.clock t.volumes t.tokens (session_in j s)
+    (e : answer_number n ≡ early_row clock volumes (session_in [] s) (row_if there k)) where
+  early_number_lem : answer_number n ≡ early_number t.clock t.volumes t.tokens (session_in j s)
   early_number_lem = rw (ec, ev, et) (e ∙ row_same clock volumes s there k i j (tokens_in j tokens) f)
 
-  pub refuses_early : (n ≡ 0 → ⊥) → x ≡ record { number = n; plan = no_plan } → Judged t (session_in j s) (commit_early t (session_in j s)) x
+  pub refuses_early : (why : Refusal) → n ≡ Err why → x ≡ Err why → Judged t (session_in j s) (commit_early t (session_in j s)) x
   unfolding commit_early
-  refuses_early z q = judged_refusal t (session_in j s) (commit_early t (session_in j s)) x n q z (rw (← early_number_lem, ne_eqb n 0 z))
+  refuses_early why z q =
+      judged_refusal t (session_in j s) (commit_early t (session_in j s)) x why q (rw (← early_number_lem, z, refusal_given why))
 
-  pub judges : n ≡ 0 → (rate : ℕ) (entries : List KeptEntry) (relays : List Relay) → t.rate ≡ rate → t.entries ≡ entries_in j entries → t.relays ≡ relays
+  pub judges : (u : ⊤) → n ≡ Ok u → (rate : ℕ) (entries : List KeptEntry) (relays : List Relay) → t.rate ≡ rate → t.entries ≡ entries_in j entries → t.relays ≡ relays
       → JudgedIn clock rate volumes (entries_in j entries) (tokens_in j tokens) relays (session_in j s) x
       → Judged t (session_in j s) (commit_early t (session_in j s)) x
   unfolding commit_early
-  judges z rate entries relays er ee el m =
+  judges u z rate entries relays er ee el m =
       let same : commit_within t (session_in j s) ≡ commit_early t (session_in j s) = rw (← early_number_lem, z) in
       rw same at (m.judged t ec er ev ee et el)
 
 -- x was given by what was read of the kept tables: ms, within, kept and rows of the entries, r of the tokens, ks the family of the token
 pub given_kept : (j : List ℕ) (clock rate : ℕ) (volumes : List Volume) (entries : List KeptEntry) (tokens : List KeptToken) (relays : List Relay)
-    (s : KeptSession) (x : Verdict) (d : Session) (ms : List Bool) (within : Bool) (kept rows : ℕ) (r there : Bool) (i : ℕ) (k : Token) (ks : List Token) (l : ℕ)
+    (s : KeptSession) (x : Result Plan Refusal) (d : Session) (ms : List Bool) (within : Bool) (kept rows : ℕ) (r there : Bool) (i : ℕ) (k : Token) (ks : List Token) (l : ℕ)
     → ((es : List Entry) (ts : List Token) → Surveyed d.volume (take d.count d.puts) es ms within kept rows → r ≡ all_of token_within ts
     → find (is_token d.token) ts ≡ cond there (hit i k) miss → i < 32 → ks ≡ family ts k → l ≤ 8 → JudgedIn clock rate volumes es ts relays d x)
     → d ≡ session_in j s → Surveyed s.volume (take s.count (puts_in j s.puts)) (entries_in j entries) ms within kept rows → r ≡ all_of within_kept tokens

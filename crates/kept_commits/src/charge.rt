@@ -36,15 +36,13 @@ pub(crate) fn charge_kept(
     let f = kept_family(journal, rows, k);
     let numbers = numbers_of(f);
     let mut out = rows;
-    let mut i: usize = 0;
-    while i < 32 {
+    for i in 0..32 {
         if rows[i].no.0 != 0 {
             if is_member(&numbers, rows[i].no.0) {
                 let row = rows[i];
                 out[i] = charge_kept_row(row, bytes);
             }
         }
-        i += 1;
     }
     out
 }

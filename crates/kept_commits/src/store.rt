@@ -18,8 +18,7 @@ use commits::Plan;
 use entries::any_mark;
 use kept::{KeptEntry, KeptSession, KeptToken, fresh_kept_session};
 use kept_entries::{give_kept_back, store_kept};
-use rules::numbers::BAD;
-use rules::{Relay, Volume};
+use rules::{Refusal, Relay, Volume};
 
 // The storing, where it can be done. Without puts the entries are not handed on, and where nothing is replaced no room is given back.
 fn store(
@@ -86,7 +85,7 @@ pub fn store_kept_commit(
     ensures { (t : Tables) → t.volumes ≡ volumes → t.entries ≡ entries_in journal.now entries → t.tokens ≡ tokens_in journal.now tokens → t.relays ≡ relays → StoredBy t (session_in journal.now s) plan (as_commit journal.now result) }
 {
     if !can_keep(volumes, tokens, s, plan.volume, plan.token) {
-        let answer = rules::refusal(BAD);
+        let answer = rules::refusal(Refusal::Bad);
         return KeptCommit {
             answer,
             volumes,

@@ -13,14 +13,12 @@ use rules::Volume;
 pub fn kept_within(rows: [KeptToken; 32]) -> bool
     ensures { (result ≡ all_of within_kept rows) × ((j : List ℕ) → result ≡ all_of token_within (tokens_in j rows)) }
 {
-    let mut i: usize = 0;
-    while i < 32 {
+    for i in 0..32 {
         if rows[i].no.0 != 0 {
             if 1152921504606846976 < rows[i].used {
                 return false;
             }
         }
-        i += 1;
     }
     true
 }
@@ -30,16 +28,15 @@ fn all_kept_puts(puts: [KeptPut; 8], count: usize) -> bool
     requires { count ≤ 8 }
     ensures { result ≡ all_of put_kept (take count puts) }
 {
-    let mut i: usize = 0;
-    while i < count {
+    for i in 0..count {
         if 68719476736 < puts[i].size {
             return false;
         }
-        i += 1;
     }
     true
 }
 
+#[tactic(auto, unfolding(crate::specs::KeptLimits::session_kept))]
 fn session_kept(s: KeptSession) -> bool
     ensures { result ≡ session_kept s }
 {
@@ -52,6 +49,7 @@ fn session_kept(s: KeptSession) -> bool
 
 // Whether the puts can be stored: the rows of the volume and the token are in their tables, the volume's version is not the last, and the session and
 // the tokens are within their limits.
+#[tactic(auto, unfolding(crate::specs::KeptLimits::can_keep))]
 pub(crate) fn can_keep(
     volumes: [Volume; 8],
     tokens: [KeptToken; 32],
@@ -82,10 +80,8 @@ pub(crate) fn kept_bytes(puts: [KeptPut; 8], count: usize) -> u64
     ensures { (result ≡ sum_of kept_size (take count puts)) × (result ≤ 8 * 2 ^ 36) }
 {
     let mut sum: u64 = 0;
-    let mut i: usize = 0;
-    while i < count {
+    for i in 0..count {
         sum += puts[i].size;
-        i += 1;
     }
     sum
 }

@@ -1,20 +1,19 @@
 -- A loop over all rows, from the last to the first, that keeps the index of the first row that passes: its invariant at row j of n, and the laws of
 -- its start, its step and its end. Assumes nothing.
+use Rattle.std.specs.Prelude.{Option, Some, None}
 use mathlib.Core.Path.{◌≡◌, sym, ◌∙◌, ap}
 use mathlib.Core.Bool.{Bool, true, false}
 use mathlib.Core.List.{List}
 use Prim.Native.Nat.{ℕ, ◌+◌, ◌-◌, ◌<◌, ◌≤◌}
 use native.Mathlib.Omega.{arith}
 use lib.ListN.{length, drop, get_or}
-use Rattle.lists.specs.declared.Found.{Found}
-use Rattle.lists.specs.declared.Found.TheVariants.{At, Nothing}
 use Rattle.lists.specs.Lists.{first_at}
 use Rattle.lists.specs.SearchLaws.{first_here, first_on, first_end}
 
 -- the index that was found, n where there is none
-abbrev pub index_or : ℕ → Found → ℕ
-index_or n Nothing = n
-index_or n (At i) = i
+abbrev pub index_or : ℕ → Option ℕ → ℕ
+index_or n None = n
+index_or n (Some i) = i
 
 -- row is the first row from j on that passes
 pub record DownLoop {A : Type 0} (p : A → Bool) (l : List A) (n j row : ℕ) : Type 0 where

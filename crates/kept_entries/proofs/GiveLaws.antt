@@ -9,7 +9,7 @@ use lib.ListN.{length, take, get_or, length-map, drop_of_length-le}
 use lib.Seq.{take-nil}
 use Rattle.lists.specs.Lists.{Hit, miss, hit, find, sum_of}
 use Rattle.lists.specs.RowLaws.{rows_length, map_row, sum_map}
-use Rattle.text.specs.declared.Text.{Text}
+use Rattle.text.specs.Text.{Text}
 use Rattle.text.specs.Text.{path_limit, to_text}
 use Rattle.rules.specs.declared.Volume.{Volume}
 use Rattle.rules.specs.declared.Entry.{Entry}

@@ -1,11 +1,11 @@
 -- The loops over the rows of a table that stand for those of another: g is the row that a row stands for, p the test of such a row, b what the
 -- code's test said of row i, and d stands for a row past the end. Assumes nothing.
+use Rattle.std.specs.Prelude.{Some}
 use mathlib.Core.Path.{◌≡◌, refl, sym, ◌∙◌, ap}
 use mathlib.Core.Bool.{Bool, true, false, cond}
 use mathlib.Core.List.{List, [], ◌∷◌, map}
 use Prim.Native.Nat.{ℕ, ◌+◌, ◌<◌}
 use lib.ListN.{get_or, set, replicate, get_or-map}
-use Rattle.lists.specs.declared.Found.TheVariants.{At}
 use Rattle.lists.specs.Lists.{first_at}
 use Rattle.lists.specs.LoopLaws.{FindLoop, find_here, find_on, find_end, find_start, sizes}
 use Rattle.lists.specs.ByteLoopLaws.{FillLoop, length_mapped, Fills-of}
@@ -17,7 +17,7 @@ module _ {A B : Type 0} (d : A) (g : A → B) (p : B → Bool) (l : List A) (i :
   said b e = e ∙ ap p (sym (get_or-map g l i d))
 
   module _ (n : ℕ) where
-    pub mapped_here : (b : Bool) → b ≡ true → b ≡ p (g (get_or l i d)) → i < n → FindLoop p (map g l) n i → At i ≡ first_at p 0 (map g l)
+    pub mapped_here : (b : Bool) → b ≡ true → b ≡ p (g (get_or l i d)) → i < n → FindLoop p (map g l) n i → Some i ≡ first_at p 0 (map g l)
     mapped_here b t e k h = find_here (g d) p (map g l) n i b h k (said b e) t
 
     pub mapped_on : (b : Bool) → b ≡ false → b ≡ p (g (get_or l i d)) → i < n → FindLoop p (map g l) n i → FindLoop p (map g l) n (i + 1)

@@ -1,10 +1,10 @@
 -- Kept entries: what their rows say whatever the journal is. Assumes nothing.
+use Rattle.std.specs.Prelude.{Some}
 use mathlib.Core.Path.{◌≡◌, refl, sym, ◌∙◌}
 use mathlib.Core.Bool.{Bool, true, false}
 use mathlib.Core.List.{List, [], map}
 use Prim.Native.Nat.{ℕ, ◌+◌, ◌<◌}
 use lib.ListN.{get_or, set, replicate}
-use Rattle.lists.specs.declared.Found.TheVariants.{At}
 use Rattle.lists.specs.Lists.{first_at}
 use Rattle.lists.specs.RowLaws.{map_after}
 use Rattle.lists.specs.LoopLaws.{FindLoop}
@@ -37,7 +37,7 @@ kept_other j path n e h = not_entry n path (entry_in j e) h
 -- the loops over kept entries: p is the test of the entry that a row stands for
 module _ (j : List ℕ) (p : Entry → Bool) (rows : List KeptEntry) (i : ℕ) where
   pub kept_here : (b : Bool) → b ≡ true → b ≡ p (entry_in j (get_or rows i blank_kept)) → i < 64 → FindLoop p (entries_in j rows) 64 i
-      → At i ≡ first_at p 0 (entries_in j rows)
+      → Some i ≡ first_at p 0 (entries_in j rows)
   kept_here b t e k h = mapped_here blank_kept (entry_in j) p rows i 64 b t e k h
 
   pub kept_on : (b : Bool) → b ≡ false → b ≡ p (entry_in j (get_or rows i blank_kept)) → i < 64 → FindLoop p (entries_in j rows) 64 i

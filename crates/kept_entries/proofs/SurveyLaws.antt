@@ -114,7 +114,7 @@ module _ (n : VolumeNo) (ms : List Bool) (rows : List KeptEntry) where
 
       step : within' ≡ (within && entry_within e) → used' ≡ used + bit (used_entry e) → kept' ≡ kept + left_size n b e
           → TallyLoop n ms (entries_in [] rows) (i + 1) within' kept' used'
-      unfolding all_of count_if left_bytes
+      unfolding count_if left_bytes
       step a c d =
           let first : drop i es ≡ e ∷ drop (i + 1) es =
           rw (add-one i) (drop-cons es i (entry_in [] blank_kept) (omega (arith, h.size)) ∙ ap (λ (y : Entry). y ∷ drop (suc i) es) (get_or-map (entry_in []) rows i blank_kept)) in
@@ -196,7 +196,7 @@ no_marks p [] f = refl
 no_marks p (x ∷ xs) f = rw (f x, no_marks p xs f)
 
 never : (n : VolumeNo) (e : Entry) → is_replaced n [] e ≡ false
-unfolding is_replaced any_of
+unfolding is_replaced
 never n e = and-false (in_volume n e)
 
 none_replaced : (n : VolumeNo) (count : ℕ) (puts : List Put) (es : List Entry) → count ≡ 0 → length es ≡ 64

@@ -16,13 +16,11 @@ pub fn mark_kept_path(journal: &[u8], rows: [KeptEntry; 64], n: VolumeNo, path: 
     ensures { result ≡ map (is_entry n path.now) (entries_in journal.now rows) }
 {
     let mut marks = [false; 64];
-    let mut i: usize = 0;
-    while i < 64 {
+    for i in 0..64 {
         if rows[i].volume.0 == n.0 {
             let e = rows[i];
             marks[i] = is_kept_entry(journal, e, n, path);
         }
-        i += 1;
     }
     marks
 }
@@ -33,12 +31,10 @@ pub fn clear_kept_entries(rows: [KeptEntry; 64], marks: [bool; 64]) -> [KeptEntr
 {
     let fresh = kept::fresh_kept_entry();
     let mut left = rows;
-    let mut i: usize = 0;
-    while i < 64 {
+    for i in 0..64 {
         if marks[i] {
             left[i] = fresh;
         }
-        i += 1;
     }
     left
 }
@@ -48,10 +44,8 @@ pub fn kept_volumes(rows: [KeptEntry; 64]) -> [u32; 64]
     ensures { (j : List ℕ) → result ≡ map entry_volume (entries_in j rows) }
 {
     let mut numbers = [0u32; 64];
-    let mut i: usize = 0;
-    while i < 64 {
+    for i in 0..64 {
         numbers[i] = rows[i].volume.0;
-        i += 1;
     }
     numbers
 }
@@ -61,10 +55,8 @@ pub fn kept_sizes(rows: [KeptEntry; 64]) -> [u64; 64]
     ensures { (j : List ℕ) → result ≡ map size_of (entries_in j rows) }
 {
     let mut sizes = [0u64; 64];
-    let mut i: usize = 0;
-    while i < 64 {
+    for i in 0..64 {
         sizes[i] = rows[i].size;
-        i += 1;
     }
     sizes
 }

@@ -7,17 +7,16 @@ ghost use Rattle.kept.specs.Kept.{entry_in};
 ghost use Rattle.kept_entries.specs.KeptEntries.{path_in, entries_in};
 
 use kept::{KeptEntry, bytes_in};
-use lists::{Found, same_bytes};
+use lists::same_bytes;
 use rows::is_number;
 use rules::VolumeNo;
-use text::byte_count;
+use text::PATH_LIMIT;
 
 // The bytes of the path there, no more than a text holds.
 pub(crate) fn path_in(journal: &[u8], at: usize, len: usize) -> &[u8]
     ensures { result.now ≡ path_in journal.now at len }
 {
-    let n = byte_count(len);
-    bytes_in(journal, at, n)
+    bytes_in(journal, at, len.min(PATH_LIMIT))
 }
 
 // Whether the entry is this volume's at this path.
@@ -32,20 +31,23 @@ pub fn is_kept_entry(journal: &[u8], e: KeptEntry, n: VolumeNo, path: &[u8]) -> 
 }
 
 // The index of the volume's entry at the path.
-pub fn find_kept_entry(journal: &[u8], rows: [KeptEntry; 64], n: VolumeNo, path: &[u8]) -> Found
+pub fn find_kept_entry(
+    journal: &[u8],
+    rows: [KeptEntry; 64],
+    n: VolumeNo,
+    path: &[u8],
+) -> Option<usize>
     ensures { result ≡ first_at (is_entry n path.now) 0 (entries_in journal.now rows) }
 {
-    let mut i: usize = 0;
-    while i < 64 {
+    for i in 0..64 {
         if rows[i].volume.0 == n.0 {
             let e = rows[i];
             if is_kept_entry(journal, e, n, path) {
-                return Found::At(i);
+                return Some(i);
             }
         }
-        i += 1;
     }
-    Found::Nothing
+    None
 }
 
 // Whether the paths at two places are the same: their lengths are compared first.

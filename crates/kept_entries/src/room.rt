@@ -9,14 +9,14 @@ use entries::any_mark;
 use kept::KeptEntry;
 use placing::give_back_entry;
 use rules::{Entry, Relay, Volume};
-use text::empty_text;
+use text::Text;
 
 // The entry without its path, as the empty journal has it: what an entry gives back is not by its path.
 fn bare_entry(e: KeptEntry) -> Entry
     ensures { result ≡ entry_in [] e }
 {
     let volume = e.volume;
-    let path = empty_text();
+    let path = Text::empty();
     let hash = e.hash;
     let placement = e.placement;
     Entry {
@@ -41,15 +41,13 @@ pub fn give_kept_back(
         return relays;
     }
     let mut rows = relays;
-    let mut i: usize = 0;
-    while i < 64 {
+    for i in 0..64 {
         if marks[i] {
             let k = entries[i];
             let e = bare_entry(k);
             let next = give_back_entry(rows, volumes, e);
             rows = next;
         }
-        i += 1;
     }
     rows
 }

@@ -23,22 +23,18 @@ pub fn mark_kept_replaced(
 {
     let m = put_count(count);
     let mut marks = [false; 64];
-    let mut i: usize = 0;
-    while i < 64 {
+    for i in 0..64 {
         if is_number(n.0, entries[i].volume.0) {
             let at = entries[i].at;
             let len = entries[i].len;
             let mut found = false;
-            let mut k: usize = 0;
-            while k < m {
+            for k in 0..m {
                 if same_paths(journal, puts[k].at, puts[k].len, at, len) {
                     found = true;
                 }
-                k += 1;
             }
             marks[i] = found;
         }
-        i += 1;
     }
     marks
 }
@@ -58,25 +54,21 @@ fn count_kept_new(
 {
     let m = put_count(count);
     let mut new: usize = 0;
-    let mut i: usize = 0;
-    while i < m {
+    for i in 0..m {
         let at = puts[i].at;
         let len = puts[i].len;
         let mut there = false;
-        let mut k: usize = 0;
-        while k < 64 {
+        for k in 0..64 {
             if marks[k] {
                 let e = entries[k];
                 if has_path(journal, e, n, at, len) {
                     there = true;
                 }
             }
-            k += 1;
         }
         if !there {
             new += 1;
         }
-        i += 1;
     }
     new
 }
@@ -144,8 +136,7 @@ pub fn store_kept(
     let mut marks = mark_kept_replaced(journal, entries, n, puts, count);
     let m = put_count(count);
     let mut out = entries;
-    let mut i: usize = 0;
-    while i < m {
+    for i in 0..m {
         let p = puts[i];
         let place = places[i];
         let mut row: usize = 64;
@@ -166,7 +157,6 @@ pub fn store_kept(
             out[to] = kept_entry_for(n, p, place);
             marks[to] = true;
         }
-        i += 1;
     }
     out
 }

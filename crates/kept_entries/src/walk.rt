@@ -22,8 +22,7 @@ fn kept_tally(entries: [KeptEntry; 64], n: VolumeNo, marks: [bool; 64]) -> KeptS
     let mut within = true;
     let mut kept: u64 = 0;
     let mut used: usize = 0;
-    let mut i: usize = 0;
-    while i < 64 {
+    for i in 0..64 {
         if entries[i].volume.0 != 0 {
             used += 1;
             if 68719476736 < entries[i].size {
@@ -36,7 +35,6 @@ fn kept_tally(entries: [KeptEntry; 64], n: VolumeNo, marks: [bool; 64]) -> KeptS
                 }
             }
         }
-        i += 1;
     }
     KeptSums { within, kept, used }
 }

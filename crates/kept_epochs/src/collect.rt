@@ -18,10 +18,8 @@ fn mark_kept_gone(entries: [KeptEntry; 64], gone: [u32; 8]) -> [bool; 64]
     ensures { result ≡ map (kept_gone gone) entries }
 {
     let mut marks = [false; 64];
-    let mut i: usize = 0;
-    while i < 64 {
+    for i in 0..64 {
         marks[i] = is_one_of(gone, entries[i].volume.0);
-        i += 1;
     }
     marks
 }

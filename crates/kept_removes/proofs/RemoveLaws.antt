@@ -1,4 +1,5 @@
 -- What a remove from kept entries answers, return by return. j is the bytes of the journal. Assumes nothing.
+use Rattle.std.specs.Prelude.{Option, Some, None}
 use mathlib.Core.Path.{◌≡◌, sym, ◌∙◌, ap}
 use mathlib.Core.Bool.{Bool, true, false, not}
 use mathlib.Core.List.{List, map}
@@ -6,8 +7,6 @@ use Prim.Native.Nat.{ℕ, ◌+◌, ◌<◌, ◌≤◌}
 use borrow.Author.Rules.{rules}
 use borrow.Author.Tests.{not-true, not-false, le-leb, lt-leb}
 use lib.ListN.{get_or, set}
-use Rattle.lists.specs.declared.Found.{Found}
-use Rattle.lists.specs.declared.Found.TheVariants.{At, Nothing}
 use Rattle.lists.specs.Lists.{first_at, find, hit, miss}
 use Rattle.lists.specs.SearchLaws.{first_row_lem, first_miss}
 use Rattle.text.specs.Text.{is_path}
@@ -65,8 +64,8 @@ module _ (j : List ℕ) (vs : List Volume) (es : List KeptEntry) (rs : List Rela
   refuses r n q t x y z = rw (q, ← x, ← y, ← z)
 
   -- from the entry on: f is what the search for it said
-  module _ (r : KeptRemove) (path : List ℕ) (i : ℕ) (v : Volume) (f : Found) (e : f ≡ first_at (is_entry v.no path) 0 (entries_in j es)) where
-    pub entry_none : f ≡ Nothing → r ≡ kept_refused vs es rs NO_ENTRY → Leaves j vs es rs r (entry_rule path i v)
+  module _ (r : KeptRemove) (path : List ℕ) (i : ℕ) (v : Volume) (f : Option ℕ) (e : f ≡ first_at (is_entry v.no path) 0 (entries_in j es)) where
+    pub entry_none : f ≡ None → r ≡ kept_refused vs es rs NO_ENTRY → Leaves j vs es rs r (entry_rule path i v)
     unfolding entry_rule entry_of remove_entry
     entry_none w q =
         record {
@@ -75,7 +74,7 @@ module _ (j : List ℕ) (vs : List Volume) (es : List KeptEntry) (rs : List Rela
               refuses r NO_ENTRY q t x y z ∙ sym (rw g);
         }
 
-    module _ (k : ℕ) (w : f ≡ At k) where
+    module _ (k : ℕ) (w : f ≡ Some k) where
       there : (t : Tables) → t.entries ≡ entries_in j es
           → find (is_entry v.no path) t.entries ≡ hit k (get_or (entries_in j es) k blank_entry)
       there t y = rw y (first_row_lem (is_entry v.no path) (entries_in j es) k (sym e ∙ w) blank_entry)
@@ -110,8 +109,8 @@ module _ (j : List ℕ) (vs : List Volume) (es : List KeptEntry) (rs : List Rela
     unfolding remove_rule
     bad_path w q = record { told = λ t x y z. refuses r BAD q t x y z ∙ sym (rw (sym e ∙ not-true b w)) }
 
-    module _ (w : not b ≡ false) (f : Found) (g : f ≡ first_at (is_volume n) 0 vs) where
-      pub volume_none : f ≡ Nothing → r ≡ kept_refused vs es rs NO_VOLUME → Leaves j vs es rs r (remove_rule a n path)
+    module _ (w : not b ≡ false) (f : Option ℕ) (g : f ≡ first_at (is_volume n) 0 vs) where
+      pub volume_none : f ≡ None → r ≡ kept_refused vs es rs NO_VOLUME → Leaves j vs es rs r (remove_rule a n path)
       unfolding remove_rule volume_of remove_in
       volume_none u q =
           record {
@@ -120,7 +119,7 @@ module _ (j : List ℕ) (vs : List Volume) (es : List KeptEntry) (rs : List Rela
                 refuses r NO_VOLUME q t x y z ∙ sym (rw (sym e ∙ not-false b w, h));
           }
 
-      pub volume_at : (i : ℕ) → f ≡ At i → Leaves j vs es rs r (in_rule a path i (get_or vs i blank_volume)) → Leaves j vs es rs r (remove_rule a n path)
+      pub volume_at : (i : ℕ) → f ≡ Some i → Leaves j vs es rs r (in_rule a path i (get_or vs i blank_volume)) → Leaves j vs es rs r (remove_rule a n path)
       unfolding remove_rule volume_of in_rule
       volume_at i u q =
           record {

@@ -1,5 +1,6 @@
 // Remove: an owner takes an object out of a volume.
 ghost use Rattle.std.specs.Prelude.{◌≡◌, ◌<◌};
+ghost use Rattle.rules.specs.Numbers.{refusal_number};
 ghost use Rattle.rules.specs.declared.Tables.{Tables};
 ghost use Rattle.rules.specs.Limits.{last_version};
 ghost use Rattle.rules.specs.VolumeCalls.{remove_rule};
@@ -9,16 +10,19 @@ ghost use Rattle.kept_removes.specs.Parts.{on_kept_remove, kept_refused, Leaves,
 use super::KeptRemove;
 use kept::KeptEntry;
 use kept_entries::{clear_kept_entries, find_kept_entry, give_kept_back, mark_kept_path};
-use lists::Found;
 use removes::with_version;
-use rows::{find_volume, is_open, owned_by};
-use rules::numbers::{BAD, NO_ENTRY, NO_VOLUME, NOT_OWNER, SPENT, STATE};
-use rules::{Account, Relay, Volume, VolumeNo};
+use rows::{find_row, is_open, owned_by};
+use rules::{Account, Refusal, Relay, Volume, VolumeNo};
 use text::path::is_path;
 
 // A refusal: the tables are as they came.
-fn refuse(volumes: [Volume; 8], entries: [KeptEntry; 64], relays: [Relay; 32], n: u32) -> KeptRemove
-    ensures { result ≡ kept_refused volumes entries relays n }
+fn refuse(
+    volumes: [Volume; 8],
+    entries: [KeptEntry; 64],
+    relays: [Relay; 32],
+    n: Refusal,
+) -> KeptRemove
+    ensures { result ≡ kept_refused volumes entries relays (refusal_number n) }
 {
     let answer = rules::refusal(n);
     KeptRemove {
@@ -72,11 +76,11 @@ fn remove_entry(
     ensures { Leaves journal.now volumes entries relays result (entry_rule path.now i v) }
 {
     let n = v.no;
-    let Found::At(_) = find_kept_entry(journal, entries, n, path) else {
-        return refuse(volumes, entries, relays, NO_ENTRY);
+    let Some(_) = find_kept_entry(journal, entries, n, path) else {
+        return refuse(volumes, entries, relays, Refusal::NoEntry);
     };
     if 4294967295 <= v.version {
-        return refuse(volumes, entries, relays, SPENT);
+        return refuse(volumes, entries, relays, Refusal::Spent);
     }
     take_out(journal, volumes, entries, relays, i, v, path)
 }
@@ -95,12 +99,12 @@ fn remove_in(
     requires { i < 8 }
     ensures { Leaves journal.now volumes entries relays result (in_rule a path.now i v) }
 {
-    if !owned_by(v, a) {
-        return refuse(volumes, entries, relays, NOT_OWNER);
+    if !owned_by(&v, a) {
+        return refuse(volumes, entries, relays, Refusal::NotOwner);
     }
     let status = v.status;
     if !is_open(status) {
-        return refuse(volumes, entries, relays, STATE);
+        return refuse(volumes, entries, relays, Refusal::State);
     }
     remove_entry(journal, volumes, entries, relays, i, v, path)
 }
@@ -118,10 +122,10 @@ fn remove_rows(
     ensures { Leaves journal.now volumes entries relays result (remove_rule a n path.now) }
 {
     if !is_path(path) {
-        return refuse(volumes, entries, relays, BAD);
+        return refuse(volumes, entries, relays, Refusal::Bad);
     }
-    let Found::At(i) = find_volume(volumes, n) else {
-        return refuse(volumes, entries, relays, NO_VOLUME);
+    let Some(i) = find_row(&volumes, n) else {
+        return refuse(volumes, entries, relays, Refusal::NoVolume);
     };
     let v = volumes[i];
     remove_in(journal, volumes, entries, relays, i, v, a, path)

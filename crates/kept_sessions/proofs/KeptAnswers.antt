@@ -1,5 +1,6 @@
 -- What each rule on a session answers, where the session is kept: `X-none` where there is no row, `X-at` at the row that there is. What a function
 -- said of all tables, and of every journal, holds of these. j is the bytes of the journal. Assumes nothing.
+use Rattle.std.specs.Prelude.{Option, Some, None}
 use mathlib.Core.List.{List}
 use mathlib.Core.Bool.{Bool, true, false, ◌&&◌, not}
 use mathlib.Core.Path.{◌≡◌, sym, ◌∙◌, ap}
@@ -7,8 +8,6 @@ use Prim.Native.Nat.{ℕ, ◌<◌, ◌≤◌}
 use borrow.Author.Tests.{not-true, not-false, le-leb, lt-leb}
 use lib.ListN.{get_or, take}
 use lib.Seq.{take_all}
-use Rattle.lists.specs.declared.Found.{Found}
-use Rattle.lists.specs.declared.Found.TheVariants.{At, Nothing}
 use Rattle.lists.specs.Lists.{hit, miss, find, first_at}
 use Rattle.lists.specs.Bytes.{same_bytes}
 use Rattle.lists.specs.AnswerLaws.{no_row, at_row}
@@ -81,13 +80,13 @@ module _ (j : List ℕ) (t : Tables) (r : KeptOutcome) where
       stage_at_lem w f = f t ∙ sym (rw (not-false there w))
 
   -- the volume's row, in the volumes that the code was handed
-  module _ (s : KeptSession) (k : TokenNo) (n : VolumeNo) (volumes : List Volume) (e : t.volumes ≡ volumes) (f : Found) (g : f ≡ first_at (is_volume n) 0 volumes) where
-    pub volume_none : f ≡ Nothing → ((i : List ℕ) (u : Tables) → on_kept_session i u r ≡ slot_refused u (session_in i s) STATE)
+  module _ (s : KeptSession) (k : TokenNo) (n : VolumeNo) (volumes : List Volume) (e : t.volumes ≡ volumes) (f : Option ℕ) (g : f ≡ first_at (is_volume n) 0 volumes) where
+    pub volume_none : f ≡ None → ((i : List ℕ) (u : Tables) → on_kept_session i u r ≡ slot_refused u (session_in i s) STATE)
         → on_kept_session j t r ≡ open_volume t (session_in j s) k (volume_of n t)
     unfolding open_volume volume_of
     volume_none w q = no_row (open_volume t (session_in j s) k) (is_volume n) t.volumes f (on_kept_session j t r) (rw e g) w (q j t)
 
-    pub volume_at : (i : ℕ) → f ≡ At i → ((i' : List ℕ) (u : Tables) → on_kept_session i' u r ≡ open_volume u (session_in i' s) k (hit 0 (get_or volumes i blank_volume)))
+    pub volume_at : (i : ℕ) → f ≡ Some i → ((i' : List ℕ) (u : Tables) → on_kept_session i' u r ≡ open_volume u (session_in i' s) k (hit 0 (get_or volumes i blank_volume)))
         → on_kept_session j t r ≡ open_volume t (session_in j s) k (volume_of n t)
     unfolding open_volume volume_of
     volume_at i w q = at_row (open_volume t (session_in j s) k) (is_volume n) t.volumes blank_volume f (on_kept_session j t r) i (rw e g) w (rw (← e) at (q j t))
@@ -115,8 +114,8 @@ module _ (j : List ℕ) (t : Tables) (r : KeptOutcome) where
         stored ∙ sym (rw (covered true (not-false y w)))
 
   -- f is what the search for the path among the puts said
-  module _ (s : KeptSession) (p : KeptPut) (path : List ℕ) (f : Found) (e : f ≡ first_at (is_kept_put j path) 0 (take s.count s.puts)) where
-    module _ (w : f ≡ Nothing) where
+  module _ (s : KeptSession) (p : KeptPut) (path : List ℕ) (f : Option ℕ) (e : f ≡ first_at (is_kept_put j path) 0 (take s.count s.puts)) where
+    module _ (w : f ≡ None) where
       no_put : find (is_put path) (staged (session_in j s)) ≡ miss
       no_put = first_miss (is_put path) (staged (session_in j s)) (searched j s path ∙ sym e ∙ w)
 
@@ -130,7 +129,7 @@ module _ (j : List ℕ) (t : Tables) (r : KeptOutcome) where
       unfolding stage_put
       stages_next a h g ea = g j t ∙ ap (slot_accepted 0 t) (ap (session_in j) ea ∙ next_in_lem j s p) ∙ sym (rw (no_put, lt-leb 8 s.count h))
 
-    pub stages_again : (i : ℕ) (a : KeptSession) → f ≡ At i → ((i' : List ℕ) (u : Tables) → on_kept_session i' u r ≡ slot_accepted 0 u (session_in i' a)) → a ≡ kept_again s i p
+    pub stages_again : (i : ℕ) (a : KeptSession) → f ≡ Some i → ((i' : List ℕ) (u : Tables) → on_kept_session i' u r ≡ slot_accepted 0 u (session_in i' a)) → a ≡ kept_again s i p
         → on_kept_session j t r ≡ stage_put t (session_in j s) (put_in j p) (find (is_put path) (staged (session_in j s)))
     unfolding stage_put
     stages_again i a w g ea =

@@ -8,14 +8,14 @@ ghost use Rattle.kept_sessions.specs.Parts.{on_kept_session};
 use super::KeptOutcome;
 use super::answers::{accept, refuse};
 use kept::KeptSession;
-use rules::numbers::SESSION;
+use rules::Refusal;
 
 // A session ends with nothing stored, whatever the tables are.
 pub fn abandon_kept(s: KeptSession) -> KeptOutcome
     ensures { (j : List ℕ) (t : Tables) → on_kept_session j t result ≡ abandon_rule t (session_in j s) }
 {
     if s.token.0 == 0 {
-        return refuse(s, SESSION);
+        return refuse(s, Refusal::Session);
     }
     let idle = kept::fresh_kept_session();
     accept(idle)

@@ -11,10 +11,8 @@ ghost use Rattle.kept_sessions.specs.Parts.{on_kept_session, kept_opened};
 use super::KeptOutcome;
 use super::answers::{accept, refuse};
 use kept::KeptSession;
-use lists::Found;
-use rows::{can_write, find_volume, in_window, is_active};
-use rules::numbers::{MODE, NO_TOKEN, SESSION, STATE, WINDOW};
-use rules::{Token, TokenNo, Volume, VolumeNo};
+use rows::{can_write, find_row, in_window, is_active};
+use rules::{Refusal, Token, TokenNo, Volume, VolumeNo};
 
 // A session with nothing staged.
 fn new_session(n: TokenNo, v: VolumeNo, version: u32) -> KeptSession
@@ -36,7 +34,7 @@ fn open_volume(s: KeptSession, n: TokenNo, v: Volume) -> KeptOutcome
 {
     let status = v.status;
     if !is_active(status) {
-        return refuse(s, STATE);
+        return refuse(s, Refusal::State);
     }
     let no = v.no;
     accept(new_session(n, no, v.version))
@@ -50,14 +48,14 @@ fn open_token(clock: u64, volumes: [Volume; 8], s: KeptSession, k: Token) -> Kep
     let mode = scope.mode;
     let no = k.no;
     let volume = k.volume;
-    if !in_window(clock, scope) {
-        return refuse(s, WINDOW);
+    if !in_window(clock, &scope) {
+        return refuse(s, Refusal::Window);
     }
     if !can_write(mode) {
-        return refuse(s, MODE);
+        return refuse(s, Refusal::Mode);
     }
-    let Found::At(i) = find_volume(volumes, volume) else {
-        return refuse(s, STATE);
+    let Some(i) = find_row(&volumes, volume) else {
+        return refuse(s, Refusal::State);
     };
     let v = volumes[i];
     open_volume(s, no, v)
@@ -74,10 +72,10 @@ pub fn open_kept(
     ensures { (j : List ℕ) (t : Tables) → t.clock ≡ clock → t.volumes ≡ volumes → on_kept_session j t result ≡ open_found t (session_in j s) (row_if there k) }
 {
     if s.token.0 != 0 {
-        return refuse(s, SESSION);
+        return refuse(s, Refusal::Session);
     }
     if !there {
-        return refuse(s, NO_TOKEN);
+        return refuse(s, Refusal::NoToken);
     }
     open_token(clock, volumes, s, k)
 }

@@ -14,10 +14,9 @@ ghost use Rattle.kept_sessions.specs.Parts.{on_kept_session, kept_again, kept_ne
 use super::KeptOutcome;
 use super::answers::{accept, refuse};
 use kept::{KeptPut, KeptSession, bytes_in, text_bytes_in};
-use lists::{Found, same_bytes};
+use lists::same_bytes;
 use rows::put_count;
-use rules::numbers::{BAD, NO_TOKEN, PREFIX, ROOM, SESSION};
-use rules::{Hash, Token};
+use rules::{Hash, Refusal, Token};
 use text::path::is_path;
 
 // Whether the put is staged at the path.
@@ -29,19 +28,17 @@ fn is_kept_put(journal: &[u8], p: KeptPut, path: &[u8]) -> bool
 }
 
 // Among the first `count` puts.
-fn find_kept_put(journal: &[u8], rows: [KeptPut; 8], count: usize, path: &[u8]) -> Found
+fn find_kept_put(journal: &[u8], rows: [KeptPut; 8], count: usize, path: &[u8]) -> Option<usize>
     ensures { result ≡ first_at (is_kept_put journal.now path.now) 0 (take count rows) }
 {
     let n = put_count(count);
-    let mut i: usize = 0;
-    while i < n {
+    for i in 0..n {
         let p = rows[i];
         if is_kept_put(journal, p, path) {
-            return Found::At(i);
+            return Some(i);
         }
-        i += 1;
     }
-    Found::Nothing
+    None
 }
 
 // The put at a place is replaced.
@@ -72,9 +69,9 @@ fn stage_put(journal: &[u8], s: KeptSession, p: KeptPut, path: &[u8]) -> KeptOut
 {
     let puts = s.puts;
     let count = s.count;
-    let Found::At(i) = find_kept_put(journal, puts, count, path) else {
+    let Some(i) = find_kept_put(journal, puts, count, path) else {
         if 8 <= count {
-            return refuse(s, ROOM);
+            return refuse(s, Refusal::Room);
         }
         return accept(put_next(s, p));
     };
@@ -89,8 +86,8 @@ fn stage_token(journal: &[u8], s: KeptSession, k: Token, p: KeptPut) -> KeptOutc
     let path = bytes_in(journal, p.at, p.len);
     let scope = k.scope;
     let prefix = scope.prefix;
-    if !text::covers(prefix, path) {
-        return refuse(s, PREFIX);
+    if !prefix.covers(path) {
+        return refuse(s, Refusal::Prefix);
     }
     stage_put(journal, s, p, path)
 }
@@ -115,6 +112,7 @@ fn stage_fits(journal: &[u8], at: usize, len: usize, size: u64) -> bool
 
 // A session stages an object, where `k` is the row of the session's token, if it is there, and the path is the `len` bytes of the journal from `at`
 // on.
+#[tactic(auto, unfolding(sessions::specs::Rows::stage_found))]
 pub fn stage_kept(
     journal: &[u8],
     s: KeptSession,
@@ -128,13 +126,13 @@ pub fn stage_kept(
     ensures { (t : Tables) → on_kept_session journal.now t result ≡ stage_found (bytes_in journal.now at len) size hash t (session_in journal.now s) (row_if there k) }
 {
     if !stage_fits(journal, at, len, size) {
-        return refuse(s, BAD);
+        return refuse(s, Refusal::Bad);
     }
     if s.token.0 == 0 {
-        return refuse(s, SESSION);
+        return refuse(s, Refusal::Session);
     }
     if !there {
-        return refuse(s, NO_TOKEN);
+        return refuse(s, Refusal::NoToken);
     }
     let p = KeptPut {
         at,

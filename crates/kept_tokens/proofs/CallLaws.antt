@@ -1,4 +1,5 @@
 -- The calls on tokens, in a table of kept ones. j is the bytes of the journal. Assumes nothing.
+use Rattle.std.specs.Prelude.{Option}
 use mathlib.Core.Path.{◌≡◌, refl, ap, sym, ◌∙◌}
 use mathlib.Core.Bool.{Bool, true, false, not, cond}
 use mathlib.Core.List.{List, [], ◌∷◌, map}
@@ -6,10 +7,9 @@ use Prim.Native.Nat.{ℕ, zero, suc, ◌+◌}
 use borrow.Author.Tests.{not-true, not-false}
 use lib.ListN.{length, get_or, set}
 use Rattle.amount.specs.declared.Cap.{Cap}
-use Rattle.lists.specs.declared.Found.{Found}
 use Rattle.lists.specs.Lists.{first_at, find, hit, miss}
 use Rattle.lists.specs.ByteLoopLaws.{length_mapped}
-use Rattle.text.specs.declared.Text.{Text}
+use Rattle.text.specs.Text.{Text}
 use Rattle.rules.specs.declared.Account.{Account}
 use Rattle.rules.specs.declared.Answer.{Answer}
 use Rattle.rules.specs.declared.Mode.{Mode}
@@ -39,7 +39,7 @@ use Rattle.kept_tokens.specs.KeptTokenLaws.{free_in, numbers_in, parents_in, cle
 use Rattle.kept_tokens.specs.Calls.{on_kept_tokens, kept_as, kept_stored}
 
 -- the kept rows as they were, or with the new token
-module _ (rows : List KeptToken) (last at n : ℕ) (f : Found) (o : NewToken) where
+module _ (rows : List KeptToken) (last at n : ℕ) (f : Option ℕ) (o : NewToken) where
   pub store_none : not o.stored ≡ true → record { answer = o.answer; tokens = rows; last = last } ≡ kept_stored rows last (place_of f) at n o
   store_none q = rw (not-true o.stored q)
 
@@ -76,7 +76,7 @@ module _ (j : List ℕ) (rows : List KeptToken) (i last at n : ℕ) (o : NewToke
   kept_stored_lem r g = rw g (on_stored o.stored refl)
 
 -- f is what the search for a free row said, o the new token, and b the bytes of its prefix
-module _ (j : List ℕ) (rows : List KeptToken) (last at n : ℕ) (f : Found) (free : Bool) (o : NewToken) (b : List ℕ) (r : KeptTokens) (t : Tables)
+module _ (j : List ℕ) (rows : List KeptToken) (last at n : ℕ) (f : Option ℕ) (free : Bool) (o : NewToken) (b : List ℕ) (r : KeptTokens) (t : Tables)
     (g : r ≡ kept_stored rows last (place_of f) at n o) (e : f ≡ first_at free_kept 0 rows) (q : free ≡ is_found f) (w : b ≡ bytes_in j at n) (h : HasPrefix b o)
     (v : t.tokens ≡ tokens_in j rows) (l : t.last_token ≡ last) (mode : Mode) (cap : Cap) (start until : ℕ) where
   stored : on_kept_tokens j t r ≡ stored_at t (place_of f) o

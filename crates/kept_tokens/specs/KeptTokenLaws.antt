@@ -1,9 +1,8 @@
 -- What is read of a table of kept tokens is what the tokens have that it stands for. Assumes nothing.
-use Rattle.std.specs.Prelude.{◌≡◌, Bool, true, false, cond, ℕ, ◌/◌, ◌%◌, eqb}
+use Rattle.std.specs.Prelude.{◌≡◌, Bool, true, false, cond, ℕ, ◌/◌, ◌%◌, eqb, Option}
 use Rattle.std.proofs.Math.Path.{refl, ap₂}
 use Rattle.std.proofs.Common.{sym, ◌∙◌}
 use mathlib.Core.List.{List, [], ◌∷◌, map}
-use Rattle.lists.specs.declared.Found.{Found}
 use Rattle.lists.specs.Lists.{first_at}
 use Rattle.lists.specs.RowLaws.{first_map, map_after}
 use Rattle.rules.specs.declared.TokenNo.{TokenNo}
@@ -18,7 +17,7 @@ use Rattle.kept.specs.Kept.{token_in, fresh_kept_token}
 use Rattle.kept_tokens.specs.KeptTokens.{tokens_in, token_gone, is_kept, free_kept, is_kept_of, kept_gone, kept_number, kept_parent}
 
 -- r is what the search of the kept rows said
-module _ (j : List ℕ) (rows : List KeptToken) (r : Found) where
+module _ (j : List ℕ) (rows : List KeptToken) (r : Option ℕ) where
   pub find_in : (n : TokenNo) → r ≡ first_at (is_kept n) 0 rows → r ≡ first_at (is_token n) 0 (tokens_in j rows)
   find_in n e = e ∙ sym (first_map (token_in j) rows (is_token n) (is_kept n) (λ x. refl) 0)
 

@@ -17,7 +17,7 @@ use super::row::row_in;
 use super::store::store_kept;
 use amount::Cap;
 use kept::{KeptToken, bytes_in};
-use rows::{depth_in, wide};
+use rows::depth_in;
 use rules::{Mode, Token, TokenNo};
 use tokens::{attenuate_row, is_found};
 
@@ -27,7 +27,7 @@ fn kept_depth(rows: [KeptToken; 32], parent: u32) -> usize
 {
     let numbers = kept_numbers(rows);
     let parents = kept_parents(rows);
-    depth_in(&numbers, &parents, wide(parent))
+    depth_in(&numbers, &parents, u64::from(parent))
 }
 
 // From the parent's row on.

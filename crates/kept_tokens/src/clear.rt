@@ -17,12 +17,10 @@ pub fn clear_kept(rows: [KeptToken; 32], set: u32) -> [KeptToken; 32]
     ensures { (result ≡ cleared_in set fresh_kept_token rows) × ((j : List ℕ) → tokens_in j result ≡ cleared_in set fresh_token (tokens_in j rows)) }
 {
     let mut next = rows;
-    let mut i: usize = 0;
-    while i < 32 {
+    for i in 0..32 {
         if in_set(set, i) {
             next[i] = fresh_kept_token();
         }
-        i += 1;
     }
     next
 }
@@ -42,12 +40,10 @@ pub fn drop_kept(rows: [KeptToken; 32], n: VolumeNo) -> [KeptToken; 32]
     ensures { (j : List ℕ) → tokens_in j result ≡ cleared (is_token_of n) fresh_token (tokens_in j rows) }
 {
     let mut next = rows;
-    let mut i: usize = 0;
-    while i < 32 {
+    for i in 0..32 {
         if is_kept_of(n, rows[i].no.0, rows[i].volume.0) {
             next[i] = fresh_kept_token();
         }
-        i += 1;
     }
     next
 }
@@ -56,14 +52,7 @@ pub fn drop_kept(rows: [KeptToken; 32], n: VolumeNo) -> [KeptToken; 32]
 fn is_one_of(gone: [u32; 8], n: u32) -> bool
     ensures { result ≡ any_of (numbered n) gone }
 {
-    let mut i: usize = 0;
-    while i < 8 {
-        if is_number(n, gone[i]) {
-            return true;
-        }
-        i += 1;
-    }
-    false
+    gone.iter().any(|x| is_number(n, *x))
 }
 
 // Whether a token of this number and volume is one of these volumes'.
@@ -81,12 +70,10 @@ pub fn clear_gone(rows: [KeptToken; 32], gone: [u32; 8]) -> [KeptToken; 32]
     ensures { (j : List ℕ) → tokens_in j result ≡ cleared (token_gone gone) fresh_token (tokens_in j rows) }
 {
     let mut left = rows;
-    let mut i: usize = 0;
-    while i < 32 {
+    for i in 0..32 {
         if is_kept_gone(gone, rows[i].no.0, rows[i].volume.0) {
             left[i] = fresh_kept_token();
         }
-        i += 1;
     }
     left
 }

@@ -7,7 +7,6 @@ ghost use Rattle.kept_tokens.specs.Calls.{kept_as, kept_stored};
 
 use super::KeptTokens;
 use kept::KeptToken;
-use lists::Found;
 use rules::Token;
 use tokens::{NewToken, place_of};
 
@@ -39,7 +38,7 @@ fn kept_as(k: Token, at: usize, len: usize) -> KeptToken
 pub(crate) fn store_kept(
     rows: [KeptToken; 32],
     last: u32,
-    f: Found,
+    f: Option<usize>,
     at: usize,
     len: usize,
     o: NewToken,

@@ -72,7 +72,7 @@ less_fits clock r a held e =
 module _ (bytes : ℕ) where
   -- one call
   one_at : (n : RelayNo) (rows : List Relay) (h : Hit Relay) → find (is_relay n) rows ≡ h → no_clash (λ a b. numbered a.no.0 b.no.0) rows ≡ true
-      → rows_after lighter bytes (back_in h) rows ≡ map (back_one bytes n) rows
+      → rows_after (λ r. lighter r bytes) (back_in h) rows ≡ map (back_one bytes n) rows
   unfolding back_in rows_after
   one_at n rows miss e c = map_none (back_one bytes n) rows blank_relay (λ j k. rw (miss_at (is_relay n) rows 0 e j k blank_relay))
   one_at n rows (hit i r) e c =
@@ -117,7 +117,6 @@ module _ (bytes : ℕ) where
 
   -- a call for one relay, then for the others: of different relays, each of a number that was given
   each_step : (n : RelayNo) (ns : List RelayNo) (r : Relay) → given_relay n ≡ true → any_of (same_relay n) ns ≡ false → back_each bytes ns (back_one bytes n r) ≡ back_each bytes (n ∷ ns) r
-  unfolding any_of
   each_step n ns r g o = ⊎_elim this that (pass_or_fail (eqb n.0 r.no.0))
     where
       this : eqb n.0 r.no.0 ≡ true → back_each bytes ns (back_one bytes n r) ≡ back_each bytes (n ∷ ns) r
@@ -133,7 +132,7 @@ module _ (bytes : ℕ) where
 
   pub back_all_lem : (ns : List RelayNo) (rows : List Relay) → table_fits clock_limit rows ≡ true → all_of given_relay ns ≡ true → no_clash same_relay ns ≡ true
       → back_all bytes ns rows ≡ map (back_each bytes ns) rows
-  unfolding back_all all_of no_clash any_of
+  unfolding back_all no_clash
   back_all_lem [] rows e g c = map_none (back_each bytes []) rows blank_relay (λ j k. refl)
   back_all_lem (n ∷ ns) rows e g c =
       let o = not-true (any_of (same_relay n) ns) (and_left (not (any_of (same_relay n) ns)) (no_clash same_relay ns) c) in

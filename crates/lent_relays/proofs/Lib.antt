@@ -1,7 +1,6 @@
 pub mod HealthLaws
 pub mod RowAnswers
 pub mod TableLaws
-pub mod RowCallLaws
 pub mod BackLaws
 pub mod LentLaws
 pub mod LentTheorems

@@ -1,56 +1,46 @@
-// What heartbeat and give-back answer, and which row they change, by value.
-ghost use Rattle.std.specs.Prelude.{◌≡◌, ◌-◌, eqb};
+// What heartbeat and give-back answer, and which row they change.
+ghost use Rattle.std.specs.Prelude.{◌≡◌, ◌<◌, ◌-◌, IfOk, eqb, length};
 ghost use Rattle.rules.specs.Limits.{full_health};
-ghost use Rattle.lent_relays.specs.Lent.{refused_as, beat_answer, back_answer};
+ghost use Rattle.lent_relays.specs.Lent.{beat_answer, back_answer};
 
-use super::RowAnswer;
 use super::limits::table_fits;
-use lists::Found;
-use rows::find_relay;
-use rules::numbers::{BAD, NO_RELAY};
-use rules::{Relay, RelayNo};
+use rows::find_row;
+use rules::{Refusal, Relay, RelayNo};
 
 // Health 0: 100 blocks or more since the last heartbeat.
 pub fn no_health(clock: u64, beat: u64) -> bool
     ensures { result ≡ eqb (full_health - (clock - beat)) 0 }
 {
-    if clock < beat {
-        return false;
-    }
-    100 <= clock - beat
+    100 <= clock.saturating_sub(beat)
 }
 
-fn refused(n: u32) -> RowAnswer
-    ensures { result ≡ refused_as n }
-{
-    RowAnswer { number: n, at: 0 }
-}
-
-pub(crate) fn beat_answer(clock: u64, rows: [Relay; 32], n: RelayNo) -> RowAnswer
-    ensures { result ≡ beat_answer clock n rows }
+// The row whose heartbeat is set.
+pub(crate) fn beat_answer(clock: u64, rows: &[Relay], n: RelayNo) -> Result<usize, Refusal>
+    ensures answer { result ≡ beat_answer clock n rows.now }
+    ensures within { IfOk result (λ i. i < length rows.now) }
 {
     if !table_fits(clock, rows) {
-        return refused(BAD);
+        return Err(Refusal::Bad);
     }
-    let Found::At(i) = find_relay(rows, n) else {
-        return refused(NO_RELAY);
+    let Some(i) = find_row(rows, n) else {
+        return Err(Refusal::NoRelay);
     };
-    let x = rows[i];
-    if no_health(clock, x.beat) {
-        return refused(NO_RELAY);
+    if no_health(clock, rows[i].beat) {
+        return Err(Refusal::NoRelay);
     }
-    RowAnswer { number: 0, at: i }
+    Ok(i)
 }
 
-// `bytes` is not read: both calls ask in one form. No clock is given, so 2^40 stands for it, the last block that a clock may have.
-pub(crate) fn back_answer(bytes: u64, rows: [Relay; 32], n: RelayNo) -> RowAnswer
-    ensures { result ≡ back_answer bytes n rows }
+// The row that room is given back to. No clock is given, so 2^40 stands for it, the last block that a clock may have.
+pub(crate) fn back_answer(rows: &[Relay], n: RelayNo) -> Result<usize, Refusal>
+    ensures answer { result ≡ back_answer n rows.now }
+    ensures within { IfOk result (λ i. i < length rows.now) }
 {
     if !table_fits(1099511627776, rows) {
-        return refused(BAD);
+        return Err(Refusal::Bad);
     }
-    let Found::At(at) = find_relay(rows, n) else {
-        return refused(NO_RELAY);
+    let Some(i) = find_row(rows, n) else {
+        return Err(Refusal::NoRelay);
     };
-    RowAnswer { number: 0, at }
+    Ok(i)
 }

@@ -21,40 +21,23 @@ pub(crate) fn give_back_row(rows: &mut [Relay], i: usize, bytes: u64)
     rows[i] = given_back(rows[i], bytes);
 }
 
-// The same on a table that is held by value: it is lent for the one call.
-pub(crate) fn beat_held(rows: [Relay; 32], i: usize, clock: u64) -> [Relay; 32]
-    requires { i < 32 }
-    ensures { result ≡ set rows i (with_beat (get_or rows i blank_relay) clock) }
-{
-    let mut t = rows;
-    beat_row(&mut t, i, clock);
-    t
-}
-
-pub(crate) fn give_back_held(rows: [Relay; 32], i: usize, bytes: u64) -> [Relay; 32]
-    requires { i < 32 }
-    ensures { result ≡ set rows i (lighter (get_or rows i blank_relay) bytes) }
-{
-    let mut t = rows;
-    give_back_row(&mut t, i, bytes);
-    t
-}
-
 // For other crates, at every index: there is no row past the end, and nothing changes.
 pub fn beat_at(rows: [Relay; 32], i: usize, clock: u64) -> [Relay; 32]
     ensures { result ≡ set rows i (with_beat (get_or rows i blank_relay) clock) }
 {
-    if 32 <= i {
-        return rows;
+    let mut t = rows;
+    if i < 32 {
+        beat_row(&mut t, i, clock);
     }
-    beat_held(rows, i, clock)
+    t
 }
 
 pub fn give_back_at(rows: [Relay; 32], i: usize, bytes: u64) -> [Relay; 32]
     ensures { result ≡ set rows i (lighter (get_or rows i blank_relay) bytes) }
 {
-    if 32 <= i {
-        return rows;
+    let mut t = rows;
+    if i < 32 {
+        give_back_row(&mut t, i, bytes);
     }
-    give_back_held(rows, i, bytes)
+    t
 }

@@ -17,13 +17,11 @@ pub(crate) fn in_set(set: u32, i: usize) -> bool
 pub fn give_back_set(rows: [Relay; 32], set: u32, bytes: u64) -> [Relay; 32]
     ensures { result ≡ lighter_in set bytes rows }
 {
-    let mut t = rows;
-    let mut i: usize = 0;
-    while i < 32 {
+    let mut left = rows;
+    for i in 0..32 {
         if in_set(set, i) {
-            give_back_row(&mut t, i, bytes);
+            give_back_row(&mut left, i, bytes);
         }
-        i += 1;
     }
-    t
+    left
 }

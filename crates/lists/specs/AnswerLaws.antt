@@ -1,12 +1,10 @@
 -- How an answer of the code goes through a rule. A rule is a row of checks, `cond CHECK REFUSAL REST`, and may end in a row of a table that
 -- is found or not; a test is a row of parts, `free || (a && b && ..)`. The code asks a function for each, and the rule's answer follows from what was said, check by check. Each law ends in
 -- what the code owes, and its premises are what the code knows, so that `search checks` goes through a rule by itself. Assumes nothing.
-use Rattle.std.specs.Prelude.{◌≡◌, refl, Bool, true, false, not, cond, ◌&&◌, ◌||◌, List, ℕ, ◌*◌, ◌^◌, ◌<◌, eqb, leb, ltb, length, get_or, take}
+use Rattle.std.specs.Prelude.{◌≡◌, refl, Bool, true, false, not, cond, ◌&&◌, ◌||◌, List, ℕ, ◌*◌, ◌^◌, ◌<◌, eqb, leb, ltb, length, get_or, take, Option, Some, None}
 use Rattle.std.proofs.Common.{sym, ◌∙◌, ap, mul-le-mul_right, arith, Fits, eq-eqb, ne_eqb, lt-ltb, le-ltb, le-leb, ltb-true, rules, length-take}
 use Rattle.std.specs.Int.{w64}
 use Rattle.std.proofs.lemmas.Bool.{lt-leb, not-true, not-false}
-use Rattle.lists.specs.declared.Found.{Found}
-use Rattle.lists.specs.declared.Found.TheVariants.{At, Nothing}
 use Rattle.lists.specs.Lists.{Hit, hit, miss, first_at, find}
 use Rattle.lists.specs.BoolLaws.{and_left}
 use Rattle.lists.specs.RowLaws.{rows_length}
@@ -68,10 +66,10 @@ pub ruleset checks =
 
 -- a rule g of the first row of l that passes p, where f is what the search for its index said: there is none, or it is the row at i
 abbrev pub NoRow : {A B : Type 0} → (Hit A → B) → (A → Bool) → List A → Type 0
-NoRow g p l = (f : Found) (x : _) → f ≡ first_at p 0 l → f ≡ Nothing → x ≡ g miss → x ≡ g (find p l)
+NoRow g p l = (f : Option ℕ) (x : _) → f ≡ first_at p 0 l → f ≡ None → x ≡ g miss → x ≡ g (find p l)
 
 abbrev pub AtRow : {A B : Type 0} → (Hit A → B) → (A → Bool) → List A → A → Type 0
-AtRow g p l d = (f : Found) (x : _) (i : ℕ) → f ≡ first_at p 0 l → f ≡ At i → x ≡ g (hit i (get_or l i d)) → x ≡ g (find p l)
+AtRow g p l d = (f : Option ℕ) (x : _) (i : ℕ) → f ≡ first_at p 0 l → f ≡ Some i → x ≡ g (hit i (get_or l i d)) → x ≡ g (find p l)
 
 pub no_row : {A B : Type 0} (g : Hit A → B) (p : A → Bool) (l : List A) → NoRow g p l
 no_row g p l f x e w q = q ∙ sym (rw (first_miss p l (sym e ∙ w)))
@@ -80,11 +78,11 @@ pub at_row : {A B : Type 0} (g : Hit A → B) (p : A → Bool) (l : List A) (d :
 at_row g p l d f x i e w q = q ∙ sym (rw (first_row_lem p l i (sym e ∙ w) d))
 
 -- a row that was found lies in its table of n rows, and its place in memory is a number of the machine
-module _ {A : Type 0} (p : A → Bool) (l : List A) (f : Found) (i n : ℕ) where
-  pub row_in : f ≡ first_at p 0 l → f ≡ At i → length l ≡ n → i < n
+module _ {A : Type 0} (p : A → Bool) (l : List A) (f : Option ℕ) (i n : ℕ) where
+  pub row_in : f ≡ first_at p 0 l → f ≡ Some i → length l ≡ n → i < n
   row_in e w h = omega (arith, h, first_below p l 0 i (sym e ∙ w))
 
-  pub row_fits_lem : (k : ℕ) → f ≡ first_at p 0 l → f ≡ At i → length l ≡ n → ltb (n * k) (2 ^ 64) ≡ true → Fits w64 (i * k)
+  pub row_fits_lem : (k : ℕ) → f ≡ first_at p 0 l → f ≡ Some i → length l ≡ n → ltb (n * k) (2 ^ 64) ≡ true → Fits w64 (i * k)
   row_fits_lem k e w h q =
       let j : i < n = row_in e w h in
       record { fits = omega (arith, mul-le-mul_right k j, ltb-true (n * k) (2 ^ 64) q) }
@@ -92,7 +90,7 @@ module _ {A : Type 0} (p : A → Bool) (l : List A) (f : Found) (i n : ℕ) wher
 pub ruleset in_table = (row_in, row_fits_lem, rows_length, rules)
 
 -- and so does one that was found among the first rows of a table
-pub row_in_part : {A : Type 0} (p : A → Bool) (l : List A) (f : Found) (i n k : ℕ) → f ≡ first_at p 0 (take k l) → f ≡ At i → length l ≡ n → i < n
+pub row_in_part : {A : Type 0} (p : A → Bool) (l : List A) (f : Option ℕ) (i n k : ℕ) → f ≡ first_at p 0 (take k l) → f ≡ Some i → length l ≡ n → i < n
 row_in_part p l f i n k e w h = omega (arith, h, first_below p (take k l) 0 i (sym e ∙ w), length-take k l)
 
 -- A test of many parts, `free || (a && b && ..)`, as an answer of code that stops at the first part that fails. A part that fails is enough, whatever

@@ -1,15 +1,14 @@
--- Laws of same_bytes and starts_with: one step of a loop and its end, and what they say of the lists. Assumes nothing.
-use Rattle.std.specs.Prelude.{◌≡◌, refl, Bool, true, false, List, [], ◌∷◌, ◌++◌, ℕ, ◌+◌, ◌<◌, ◌≤◌, eqb, length, drop, take, get_or}
-use Rattle.std.proofs.Common.{ap, ap₂, sym, ◌∙◌, add-one, arith, drop_of_length-le, take-append-drop, take-take}
+-- Laws of same_bytes and starts_with: what they say of the lists. Assumes nothing.
+use Rattle.std.specs.Prelude.{◌≡◌, refl, true, false, List, [], ◌∷◌, ◌++◌, ℕ, ◌<◌, ◌≤◌, eqb, length, drop, take}
+use Rattle.std.proofs.Common.{ap, ap₂, sym, ◌∙◌, arith, take-append-drop, take-take}
 use Rattle.std.proofs.lemmas.Bool.{false≢true}
-use borrow.Author.Tests.{eq-eqb, ne_eqb, eqb-true}
-use Rattle.std.proofs.Math.Seq.{drop-cons, take-length}
+use borrow.Author.Tests.{eq-eqb, eqb-true}
+use Rattle.std.proofs.Math.Seq.{take-length}
 use Rattle.lists.specs.Bytes.{same_bytes, starts_with}
 use Rattle.lists.specs.BoolLaws.{and_left, and_right, and_both, same_test, not_pass}
 
 -- the same lists, and back
 pub same_eq : (a b : List ℕ) → same_bytes a b ≡ true → a ≡ b
-unfolding same_bytes
 same_eq [] [] e = refl
 same_eq [] (y ∷ ys) e = absurd (false≢true e)
 same_eq (x ∷ xs) [] e = absurd (false≢true e)
@@ -17,7 +16,6 @@ same_eq (x ∷ xs) (y ∷ ys) e =
     ap₂ ◌∷◌ (eqb-true x y (and_left (eqb x y) (same_bytes xs ys) e)) (same_eq xs ys (and_right (eqb x y) (same_bytes xs ys) e))
 
 pub same_self : (a : List ℕ) → same_bytes a a ≡ true
-unfolding same_bytes
 same_self [] = refl
 same_self (x ∷ xs) = and_both (eq-eqb x x refl) (same_self xs)
 
@@ -30,14 +28,12 @@ same_other a b n = not_pass (same_bytes a b) (λ e. n (ap length (same_eq a b e)
 
 -- the second list begins with the first: what it says of the lists, and back
 pub starts_take : (a b : List ℕ) → starts_with a b ≡ true → take (length a) b ≡ a
-unfolding starts_with
 starts_take [] b e = refl
 starts_take (x ∷ xs) [] e = absurd (false≢true e)
 starts_take (x ∷ xs) (y ∷ ys) e =
     ap₂ ◌∷◌ (sym (eqb-true x y (and_left (eqb x y) (starts_with xs ys) e))) (starts_take xs ys (and_right (eqb x y) (starts_with xs ys) e))
 
 pub starts_append : (a b : List ℕ) → starts_with a (a ++ b) ≡ true
-unfolding starts_with
 starts_append [] b = refl
 starts_append (x ∷ xs) b = and_both (eq-eqb x x refl) (starts_append xs b)
 
@@ -50,7 +46,6 @@ pub starts_self : (a : List ℕ) → starts_with a a ≡ true
 starts_self a = take_starts a a (take-length a)
 
 pub starts_length : (a b : List ℕ) → starts_with a b ≡ true → length a ≤ length b
-unfolding starts_with
 starts_length [] b e = omega arith
 starts_length (x ∷ xs) [] e = absurd (false≢true e)
 starts_length (x ∷ xs) (y ∷ ys) e = omega (arith, starts_length xs ys (and_right (eqb x y) (starts_with xs ys) e))
@@ -65,29 +60,7 @@ starts_short a b h = not_pass (starts_with a b) (λ e. omega (arith, starts_leng
 
 -- of lists of one length, to be the same is to begin with the other
 pub same_starts : (a b : List ℕ) → length a ≡ length b → starts_with a b ≡ same_bytes a b
-unfolding same_bytes starts_with
 same_starts [] [] e = refl
 same_starts [] (y ∷ ys) e = absurd (omega arith)
 same_starts (x ∷ xs) [] e = absurd (omega arith)
 same_starts (x ∷ xs) (y ∷ ys) e = rw (same_starts xs ys (omega arith))
-
--- what a function that compares two lists answers: r is what it was told of the second's beginning
-pub other_lengths : (a b : List ℕ) → (length a ≡ length b → ⊥) → false ≡ same_bytes a b
-other_lengths a b n = sym (same_other a b n)
-
-pub same_told : (r : Bool) (a b : List ℕ) → length a ≡ length b → r ≡ starts_with a b → r ≡ same_bytes a b
-same_told r a b h e = e ∙ same_starts a b h
-
--- one step of a loop over two lists of bytes, and its end
-module _ (a b : List ℕ) (i : ℕ) (ha : i < length a) (hb : i < length b) where
-  pub starts_differ : (get_or a i 0 ≡ get_or b i 0 → ⊥) → starts_with (drop i a) (drop i b) ≡ false
-  unfolding starts_with
-  starts_differ n = rw (drop-cons a i 0, drop-cons b i 0, ne_eqb (get_or a i 0) (get_or b i 0) n)
-
-  pub starts_on : get_or a i 0 ≡ get_or b i 0 → starts_with (drop i a) (drop i b) ≡ starts_with (drop (i + 1) a) (drop (i + 1) b)
-  unfolding starts_with
-  starts_on e = rw (add-one, drop-cons a i 0, drop-cons b i 0, eq-eqb (get_or a i 0) (get_or b i 0) e)
-
-pub starts_end : (a b : List ℕ) (i : ℕ) → length a ≤ i → starts_with (drop i a) (drop i b) ≡ true
-unfolding starts_with
-starts_end a b i ha = rw (drop_of_length-le a ha)

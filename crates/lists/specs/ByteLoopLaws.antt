@@ -1,43 +1,12 @@
--- The loops over the bytes of a slice: for each shape its invariant at byte i, and the laws of its start, its return, its step and its end. Each
--- law ends in what the code owes, and its premises are what the code knows, so that one list serves each need of such a loop: `search starts`,
--- `search fills`. Where every byte passes a test, AllLoop and EveryLoop of LoopLaws serve. Assumes nothing.
-use Rattle.std.specs.Prelude.{◌≡◌, refl, Bool, true, false, ◌&&◌, List, map, ℕ, suc, ◌+◌, ◌<◌, ◌≤◌, length, take, drop, get_or, set}
+-- The loop that fills a slice: its invariant at element i, and the laws of its start, its step and its end. Each law ends in what the code owes, and
+-- its premises are what the code knows, so that one list serves each need of such a loop: `search fills`. Where every element passes a test, AllLoop
+-- and EveryLoop of LoopLaws serve. Assumes nothing.
+use Rattle.std.specs.Prelude.{◌≡◌, refl, List, map, ℕ, suc, ◌+◌, ◌<◌, ◌≤◌, length, take, drop, get_or, set}
 use Rattle.std.proofs.Common.{sym, ◌∙◌, ap, append-nil, zero-add, add-one, arith, rules, length-set, drop_of_length-le, length-take-le, drop-cons}
-use Rattle.std.proofs.Math.Bool.{and-true, and-false}
 use Rattle.std.proofs.lemmas.List.{length-map, get_or_at, set-get_or}
 use Rattle.std.proofs.Math.ListN.{get_or-map}
 use Rattle.std.proofs.Math.Seq.{paste, paste-zero, paste-suc, take-length}
-use Rattle.lists.specs.Bytes.{starts_with}
 use Rattle.lists.specs.RowLaws.{rows_length}
-use Rattle.lists.specs.ByteLaws.{starts_short, starts_differ, starts_on, starts_end}
-
--- b begins with a: same says whether their bytes before i are the same, and what is left from byte i on decides the rest
-pub record StartsLoop (a b : List ℕ) (i : ℕ) (same : Bool) : Type 0 where
-  pub fits : length a ≤ length b
-  pub place : i ≤ length a
-  pub rest : starts_with a b ≡ (same && starts_with (drop i a) (drop i b))
-
-module _ (a b : List ℕ) where
-  pub starts_start : length a ≤ length b → StartsLoop a b 0 true
-  starts_start h = record { fits = h; place = omega arith; rest = refl }
-
-  pub too_short_lem : length b < length a → false ≡ starts_with a b
-  too_short_lem h = sym (starts_short a b h)
-
-  -- same' is what the code says after byte i
-  module _ (i : ℕ) (same : Bool) (h : StartsLoop a b i same) where
-    pub starts_other : (same' : Bool) → i < length a → (get_or a i 0 ≡ get_or b i 0 → ⊥) → same' ≡ false → StartsLoop a b (i + 1) same'
-    starts_other same' k n q =
-        rw q
-        (record { fits = h.fits; place = omega arith; rest = h.rest ∙ rw (starts_differ a b i (omega arith) (omega arith) n) (and-false same) })
-
-    pub starts_step : (same' : Bool) → i < length a → get_or a i 0 ≡ get_or b i 0 → same' ≡ same → StartsLoop a b (i + 1) same'
-    starts_step same' k e q = rw q (record { fits = h.fits; place = omega arith; rest = h.rest ∙ rw (starts_on a b i (omega arith) (omega arith) e) })
-
-    pub starts_all : length a ≤ i → same ≡ starts_with a b
-    starts_all k = sym (h.rest ∙ rw (starts_end a b i k) (and-true same))
-
-pub ruleset starts = (starts_other, starts_step, starts_all, too_short_lem, starts_start, rules)
 
 -- a slice filled: the first i of the n elements of s stand in out from `at` on, and the rest is as it was
 pub record FillLoop {A : Type 0} (out₀ : List A) (at : ℕ) (s : List A) (n i : ℕ) (out : List A) : Type 0 where

@@ -1,5 +1,7 @@
 -- Lists of bytes: those of a quoted text, comparing, and writing over a part. Assumes nothing.
-use Rattle.std.specs.Prelude.{Bool, true, false, ◌&&◌, List, [], ◌∷◌, ◌++◌, ℕ, ◌+◌, eqb, length, take, drop}
+use Rattle.std.specs.Prelude.{Bool, nat_eq, List, [], ◌∷◌, ◌++◌, ℕ, ◌+◌, length, take, drop}
+use Rattle.std.specs.List.{starts_with as list_starts}
+use Rattle.std.specs.Str.{bytes_eq}
 use Prim.Native.Char.{code}
 use Prim.Native.String.{String, [] as none, ◌∷◌ as ◌then◌}
 
@@ -9,17 +11,12 @@ bytes none = []
 bytes (◌then◌ c s) = code c ∷ bytes s
 
 -- two lists of bytes are the same
-unfoldable pub same_bytes : List ℕ → List ℕ → Bool
-same_bytes [] [] = true
-same_bytes [] (y ∷ ys) = false
-same_bytes (x ∷ xs) [] = false
-same_bytes (x ∷ xs) (y ∷ ys) = eqb x y && same_bytes xs ys
+abbrev pub same_bytes : List ℕ → List ℕ → Bool
+same_bytes a b = bytes_eq a b
 
 -- the second list begins with the first
-unfoldable pub starts_with : List ℕ → List ℕ → Bool
-starts_with [] ys = true
-starts_with (x ∷ xs) [] = false
-starts_with (x ∷ xs) (y ∷ ys) = eqb x y && starts_with xs ys
+abbrev pub starts_with : List ℕ → List ℕ → Bool
+starts_with prefix s = list_starts nat_eq s prefix
 
 -- the bytes over those that stand at a place
 abbrev pub over : ℕ → List ℕ → List ℕ → List ℕ

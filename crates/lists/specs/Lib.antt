@@ -12,3 +12,4 @@ pub mod AnswerLaws
 pub mod LoopLaws
 pub mod ByteLoopLaws
 pub mod OverLaws
+pub mod LibraryLaws

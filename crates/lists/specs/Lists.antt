@@ -1,7 +1,6 @@
 -- Searches, tests, counts and sums over the rows of a table, for any kind of row. Assumes nothing.
-use Rattle.std.specs.Prelude.{Bool, true, false, ◌&&◌, ◌||◌, cond, not, List, [], ◌∷◌, ℕ, zero, suc, ◌+◌, ◌*◌}
-use Rattle.lists.specs.declared.Found.{Found}
-use Rattle.lists.specs.declared.Found.TheVariants.{At, Nothing}
+use Rattle.std.specs.Prelude.{filter, Bool, true, false, ◌&&◌, cond, not, List, [], ◌∷◌, ℕ, zero, suc, ◌+◌, ◌*◌, Option, Some, None}
+use Rattle.std.specs.List.{list_any, list_all}
 
 -- 1 for true, 0 for false
 abbrev pub bit : Bool → ℕ
@@ -9,9 +8,9 @@ bit true = 1
 bit false = 0
 
 -- the index, counted from i, of the first row that passes the test
-unfoldable pub first_at : {A : Type 0} → (A → Bool) → ℕ → List A → Found
-first_at p i [] = Nothing
-first_at p i (x ∷ xs) = cond (p x) (At i) (first_at p (suc i) xs)
+unfoldable pub first_at : {A : Type 0} → (A → Bool) → ℕ → List A → Option ℕ
+first_at p i [] = None
+first_at p i (x ∷ xs) = cond (p x) (Some i) (first_at p (suc i) xs)
 
 -- what a search finds: no row, or the first one with its index
 pub data Hit (A : Type 0) : Type 0 where
@@ -28,14 +27,12 @@ abbrev pub find : {A : Type 0} → (A → Bool) → List A → Hit A
 find p l = first_row p 0 l
 
 -- every row passes
-unfoldable pub all_of : {A : Type 0} → (A → Bool) → List A → Bool
-all_of p [] = true
-all_of p (x ∷ xs) = p x && all_of p xs
+abbrev pub all_of : {A : Type 0} → (A → Bool) → List A → Bool
+all_of p l = list_all p l
 
 -- some row passes
-unfoldable pub any_of : {A : Type 0} → (A → Bool) → List A → Bool
-any_of p [] = false
-any_of p (x ∷ xs) = p x || any_of p xs
+abbrev pub any_of : {A : Type 0} → (A → Bool) → List A → Bool
+any_of p l = list_any p l
 
 -- how many rows pass
 unfoldable pub count_if : {A : Type 0} → (A → Bool) → List A → ℕ
@@ -43,9 +40,8 @@ count_if p [] = 0
 count_if p (x ∷ xs) = bit (p x) + count_if p xs
 
 -- the rows that pass, in their order
-unfoldable pub keep : {A : Type 0} → (A → Bool) → List A → List A
-keep p [] = []
-keep p (x ∷ xs) = cond (p x) (x ∷ keep p xs) (keep p xs)
+abbrev pub keep : {A : Type 0} → (A → Bool) → List A → List A
+keep p l = filter p l
 
 -- the sum of f over the rows
 unfoldable pub sum_of : {A : Type 0} → (A → ℕ) → List A → ℕ

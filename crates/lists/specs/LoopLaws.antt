@@ -2,11 +2,10 @@
 -- start, its return, its step and its end. b is what the code's test said of row i, and d stands for a row past the end. Each law ends in what
 -- the code owes, and its premises are what the code knows, so that one list serves each need of such a loop: `search finds`, `search anys`,
 -- `search alls`, `search everys`, `search clashes`, `search sums`. Assumes nothing.
-use Rattle.std.specs.Prelude.{◌≡◌, refl, Bool, true, false, not, ◌&&◌, List, ℕ, ◌+◌, ◌<◌, ◌≤◌, min, length, drop, get_or, take}
+use Rattle.std.specs.Prelude.{◌≡◌, refl, Bool, true, false, not, ◌&&◌, List, ℕ, ◌+◌, ◌<◌, ◌≤◌, min, length, drop, get_or, take, Some, None}
 use Rattle.std.proofs.Common.{sym, ◌∙◌, arith, rules, length-take, get_or-take}
 use Rattle.std.proofs.Math.Bool.{and-true, and-false}
 use Rattle.std.proofs.lemmas.Bool.{not-true, not-false}
-use Rattle.lists.specs.declared.Found.TheVariants.{At, Nothing}
 use Rattle.lists.specs.Lists.{first_at, all_of, any_of, no_clash, sum_of}
 use Rattle.lists.specs.SearchLaws.{first_here, first_on, first_end}
 use Rattle.lists.specs.TestLaws.{all_fails, all_on, all_end, any_here, any_on, any_end, clash_here, clash_on, clash_end}
@@ -32,18 +31,18 @@ module _ {A : Type 0} (p : A → Bool) (l : List A) where
   find_start n e = record { size = e; rest = refl }
 
   module _ (n i : ℕ) where
-    pub find_end : FindLoop p l n i → n ≤ i → Nothing ≡ first_at p 0 l
+    pub find_end : FindLoop p l n i → n ≤ i → None ≡ first_at p 0 l
     find_end h k = sym (h.rest ∙ first_end p l i (omega arith))
 
 module _ {A : Type 0} (d : A) (p : A → Bool) (l : List A) (n i : ℕ) (b : Bool) where
-  pub find_here : FindLoop p l n i → i < n → b ≡ p (get_or l i d) → b ≡ true → At i ≡ first_at p 0 l
+  pub find_here : FindLoop p l n i → i < n → b ≡ p (get_or l i d) → b ≡ true → Some i ≡ first_at p 0 l
   find_here h k e t = sym (h.rest ∙ first_here p l d i (omega arith) e t)
 
   pub find_on : FindLoop p l n i → i < n → b ≡ p (get_or l i d) → b ≡ false → FindLoop p l n (i + 1)
   find_on h k e t = record { size = h.size; rest = h.rest ∙ first_on p l d i (omega arith) e t }
 
 module _ {A : Type 0} (d : A) (p : A → Bool) (l : List A) (k n i : ℕ) (b : Bool) where
-  pub find_here_part : FindLoop p (take k l) n i → i < n → b ≡ p (get_or l i d) → b ≡ true → At i ≡ first_at p 0 (take k l)
+  pub find_here_part : FindLoop p (take k l) n i → i < n → b ≡ p (get_or l i d) → b ≡ true → Some i ≡ first_at p 0 (take k l)
   find_here_part h w e = find_here d p (take k l) n i b h w (rw (part_row l k n i d h.size w) e)
 
   pub find_on_part : FindLoop p (take k l) n i → i < n → b ≡ p (get_or l i d) → b ≡ false → FindLoop p (take k l) n (i + 1)
@@ -55,7 +54,7 @@ pub ruleset finds-part = (find_here_part, find_on_part, find_end, find_start, si
 
 -- where the code compares by itself, and calls no function for its test: d is then to be given, `search (find_here_row blank_volume, eq-eqb, finds)`
 module _ {A : Type 0} (d : A) (p : A → Bool) (l : List A) (n i : ℕ) where
-  pub find_here_row : FindLoop p l n i → i < n → p (get_or l i d) ≡ true → At i ≡ first_at p 0 l
+  pub find_here_row : FindLoop p l n i → i < n → p (get_or l i d) ≡ true → Some i ≡ first_at p 0 l
   find_here_row h w e = find_here d p l n i true h w (sym e) refl
 
   pub find_on_row : FindLoop p l n i → i < n → p (get_or l i d) ≡ false → FindLoop p l n (i + 1)

@@ -75,7 +75,7 @@ module _ {A : Type 0} where
   pub all_modify : (p : A → Bool) (f : A → A) (i : ℕ) (l : List A) (d : A) → all_of p l ≡ true
       → (i < length l → p (f (get_or l i d)) ≡ true)
       → all_of p (modify f i l) ≡ true
-  unfolding all_of modify
+  unfolding modify
   all_modify p f i [] d e h = refl
   all_modify p f zero (x ∷ xs) d e h = and_both (h (omega arith)) (and_right (p x) (all_of p xs) e)
   all_modify p f (suc i) (x ∷ xs) d e h =
@@ -85,7 +85,7 @@ module _ {A : Type 0} where
   pub none_modify : (p : A → Bool) (f : A → A) (i : ℕ) (l : List A) (d : A) → any_of p l ≡ false
       → (i < length l → p (f (get_or l i d)) ≡ false)
       → any_of p (modify f i l) ≡ false
-  unfolding any_of modify
+  unfolding modify
   none_modify p f i [] d e h = refl
   none_modify p f zero (x ∷ xs) d e h = or_none (h (omega arith)) (or_right (p x) (any_of p xs) e)
   none_modify p f (suc i) (x ∷ xs) d e h =

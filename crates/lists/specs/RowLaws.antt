@@ -43,12 +43,10 @@ abbrev itself : Bool → Bool
 itself b = b
 
 results_all : {A : Type 0} (p : A → Bool) (l : List A) → all_of p l ≡ all_of itself (map p l)
-unfolding all_of
 results_all p [] = refl
 results_all p (x ∷ xs) = rw (results_all p xs)
 
 results_any : {A : Type 0} (p : A → Bool) (l : List A) → any_of p l ≡ any_of itself (map p l)
-unfolding any_of
 results_any p [] = refl
 results_any p (x ∷ xs) = rw (results_any p xs)
 
@@ -117,7 +115,6 @@ row_same p q k [] e = refl
 row_same p q k (x ∷ xs) e = rw (head-eq_of_cons-eq e, row_same p q (suc k) xs (tail-eq_of_cons-eq e))
 
 pub keep_same : {A : Type 0} (p q : A → Bool) (l : List A) → map p l ≡ map q l → keep p l ≡ keep q l
-unfolding keep
 keep_same p q [] e = refl
 keep_same p q (x ∷ xs) e = rw (head-eq_of_cons-eq e, keep_same p q xs (tail-eq_of_cons-eq e))
 

@@ -1,19 +1,17 @@
 -- Laws of first_at and first_row: one step of a search and its end, and what a search finds. Assumes nothing.
-use Rattle.std.specs.Prelude.{◌≡◌, Bool, true, false, ◌||◌, cond, ◌⊎◌, length, drop, get_or}
+use Rattle.std.specs.Prelude.{◌≡◌, Bool, true, false, ◌||◌, cond, ◌⊎◌, length, drop, get_or, Option, Some, None}
 use Rattle.std.proofs.Math.Path.{refl}
 use Rattle.std.proofs.Common.{ap, sym, ◌∙◌, inl, inr, add-one, arith, drop_of_length-le}
 use Rattle.std.proofs.Math.Logic.{⊎_elim}
 use mathlib.Core.List.{List, [], ◌∷◌}
 use Prim.Native.Nat.{ℕ, zero, suc, ◌+◌, ◌<◌, ◌≤◌}
 use Rattle.std.proofs.Math.Seq.{drop-cons}
-use Rattle.lists.specs.declared.Found.{Found}
-use Rattle.lists.specs.declared.Found.TheVariants.{At, Nothing}
 use Rattle.lists.specs.Lists.{Hit, miss, hit, first_at, first_row, any_of}
 use Rattle.lists.specs.BoolLaws.{not_both, or_left, or_right}
 
 -- one step of a search, and its end: b is what the test's function returned
 module _ {A : Type 0} (p : A → Bool) (l : List A) where
-  pub first_here : {b : Bool} (d : A) (i : ℕ) → i < length l → b ≡ p (get_or l i d) → b ≡ true → first_at p i (drop i l) ≡ At i
+  pub first_here : {b : Bool} (d : A) (i : ℕ) → i < length l → b ≡ p (get_or l i d) → b ≡ true → first_at p i (drop i l) ≡ Some i
   unfolding first_at
   first_here {b} d i h e t = rw (drop-cons l i d, ← e, t)
 
@@ -22,17 +20,17 @@ module _ {A : Type 0} (p : A → Bool) (l : List A) where
   unfolding first_at
   first_on {b} d i h e t = rw (add-one, drop-cons l i d, ← e, t)
 
-  pub first_end : (i : ℕ) → length l ≤ i → first_at p i (drop i l) ≡ Nothing
+  pub first_end : (i : ℕ) → length l ≤ i → first_at p i (drop i l) ≡ None
   unfolding first_at
   first_end i h = rw (drop_of_length-le l h)
 
 -- the index of what is found
-abbrev pub index_of : {A : Type 0} → Hit A → Found
-index_of miss = Nothing
-index_of (hit i x) = At i
+abbrev pub index_of : {A : Type 0} → Hit A → Option ℕ
+index_of miss = None
+index_of (hit i x) = Some i
 
 -- first_at and first_row find the same row
-index_cond : {A : Type 0} (b : Bool) (i : ℕ) (x : A) (rest : Hit A) → index_of (cond b (hit i x) rest) ≡ cond b (At i) (index_of rest)
+index_cond : {A : Type 0} (b : Bool) (i : ℕ) (x : A) (rest : Hit A) → index_of (cond b (hit i x) rest) ≡ cond b (Some i) (index_of rest)
 index_cond true i x rest = refl
 index_cond false i x rest = refl
 
@@ -103,12 +101,12 @@ miss_step true r k y rest e f = absurd (miss_hit e refl)
 miss_step false r k y rest e f = f e
 
 pub miss_none : {A : Type 0} (p : A → Bool) (l : List A) (k : ℕ) → first_row p k l ≡ miss → any_of p l ≡ false
-unfolding first_row any_of
+unfolding first_row
 miss_none p [] k e = refl
 miss_none p (x ∷ xs) k e = miss_step (p x) (any_of p xs) k x (first_row p (suc k) xs) e (miss_none p xs (suc k))
 
 pub none_miss : {A : Type 0} (p : A → Bool) (l : List A) (k : ℕ) → any_of p l ≡ false → first_row p k l ≡ miss
-unfolding first_row any_of
+unfolding first_row
 none_miss p [] k e = refl
 none_miss p (x ∷ xs) k e = rw (or_left (p x) (any_of p xs) e) (none_miss p xs (suc k) (or_right (p x) (any_of p xs) e))
 
@@ -124,26 +122,26 @@ pub some_found : {A : Type 0} (p : A → Bool) (l : List A) (k : ℕ) → any_of
 some_found p l k e = found_or (first_row p k l) (λ m. not_both e (miss_none p l k m))
 
 -- what first_at finds is what first_row finds
-index_found : {A : Type 0} (h : Hit A) (i : ℕ) → index_of h ≡ At i → (x : A) × (h ≡ hit i x)
+index_found : {A : Type 0} (h : Hit A) (i : ℕ) → index_of h ≡ Some i → (x : A) × (h ≡ hit i x)
 index_found miss i e = absurd (let z : ◌≡◌ {A = ℕ} 0 1 = cc in omega arith)
 index_found (hit j x) i e = let q : j ≡ i = cc in (x, rw q)
 
-index_miss : {A : Type 0} (h : Hit A) → index_of h ≡ Nothing → h ≡ miss
+index_miss : {A : Type 0} (h : Hit A) → index_of h ≡ None → h ≡ miss
 index_miss miss e = refl
 index_miss (hit j x) e = absurd (let z : ◌≡◌ {A = ℕ} 0 1 = cc in omega arith)
 
 module _ {A : Type 0} (p : A → Bool) (l : List A) where
-  first_found : (k i : ℕ) → first_at p k l ≡ At i → (x : A) × (first_row p k l ≡ hit i x)
+  first_found : (k i : ℕ) → first_at p k l ≡ Some i → (x : A) × (first_row p k l ≡ hit i x)
   first_found k i e = index_found (first_row p k l) i (sym (first_index p k l) ∙ e)
 
-  pub first_below : (k i : ℕ) → first_at p k l ≡ At i → i < k + length l
+  pub first_below : (k i : ℕ) → first_at p k l ≡ Some i → i < k + length l
   first_below k i e = let f = first_found k i e in row_below p l k i f.0 f.1
 
   -- of a whole list
-  pub first_row_lem : (i : ℕ) → first_at p 0 l ≡ At i → (d : A) → first_row p 0 l ≡ hit i (get_or l i d)
+  pub first_row_lem : (i : ℕ) → first_at p 0 l ≡ Some i → (d : A) → first_row p 0 l ≡ hit i (get_or l i d)
   first_row_lem i e d = let f = first_found 0 i e in f.1 ∙ ap (hit i) (sym (row_at p l 0 i i f.0 d (omega arith) f.1))
 
-  pub first_miss : first_at p 0 l ≡ Nothing → first_row p 0 l ≡ miss
+  pub first_miss : first_at p 0 l ≡ None → first_row p 0 l ≡ miss
   first_miss e = index_miss (first_row p 0 l) (sym (first_index p 0 l) ∙ e)
 
   -- what first_row finds, of a whole list

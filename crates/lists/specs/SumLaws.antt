@@ -119,7 +119,7 @@ module _ {A : Type 0} where
   length_cond false x l = omega arith
 
   pub length_keep : (p : A → Bool) (l : List A) → length (keep p l) ≡ count_if p l
-  unfolding keep count_if
+  unfolding count_if
   length_keep p [] = refl
   length_keep p (x ∷ xs) = length_cond (p x) x (keep p xs) ∙ ap (λ (n : ℕ). bit (p x) + n) (length_keep p xs)
 
@@ -129,13 +129,13 @@ module _ {A : Type 0} where
   sum_cond f false x l = omega arith
 
   pub sum_keep : (f g : A → ℕ) (p : A → Bool) (l : List A) → ((x : A) → g x ≡ cond (p x) (f x) 0) → sum_of f (keep p l) ≡ sum_of g l
-  unfolding keep sum_of
+  unfolding sum_of
   sum_keep f g p [] e = refl
   sum_keep f g p (x ∷ xs) e = sum_cond f (p x) x (keep p xs) ∙ rw (e x, sum_keep f g p xs e)
 
   pub sum_split : (f : A → ℕ) (p q : A → Bool) (l : List A) → ((x : A) → q x ≡ not (p x))
       → sum_of f (keep p l) + sum_of f (keep q l) ≡ sum_of f l
-  unfolding keep sum_of
+  unfolding sum_of
   sum_split f p q [] e = refl
   sum_split f p q (x ∷ xs) e =
       rw (e x)

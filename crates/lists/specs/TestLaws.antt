@@ -15,27 +15,21 @@ use Rattle.lists.specs.SearchLaws.{row_passes, found_below, found_at, FoundRow, 
 -- one step of a test of every row, and its end: b is what the test's function returned
 module _ {A : Type 0} (p : A → Bool) (l : List A) where
   pub all_fails : {b : Bool} (d : A) (i : ℕ) → i < length l → b ≡ p (get_or l i d) → b ≡ false → all_of p (drop i l) ≡ false
-  unfolding all_of
   all_fails d i h e t = rw (drop-cons l i d, ← e, t)
 
   pub all_on : {b : Bool} (d : A) (i : ℕ) → i < length l → b ≡ p (get_or l i d) → b ≡ true → all_of p (drop i l) ≡ all_of p (drop (i + 1) l)
-  unfolding all_of
   all_on d i h e t = rw (add-one, drop-cons l i d, ← e, t)
 
   pub all_end : (i : ℕ) → length l ≤ i → all_of p (drop i l) ≡ true
-  unfolding all_of
   all_end i h = rw (drop_of_length-le l h)
 
   pub any_here : {b : Bool} (d : A) (i : ℕ) → i < length l → b ≡ p (get_or l i d) → b ≡ true → any_of p (drop i l) ≡ true
-  unfolding any_of
   any_here d i h e t = rw (drop-cons l i d, ← e, t)
 
   pub any_on : {b : Bool} (d : A) (i : ℕ) → i < length l → b ≡ p (get_or l i d) → b ≡ false → any_of p (drop i l) ≡ any_of p (drop (i + 1) l)
-  unfolding any_of
   any_on d i h e t = rw (add-one, drop-cons l i d, ← e, t)
 
   pub any_end : (i : ℕ) → length l ≤ i → any_of p (drop i l) ≡ false
-  unfolding any_of
   any_end i h = rw (drop_of_length-le l h)
 
 -- one row against the later ones: b is what the search for a clash returned
@@ -56,25 +50,21 @@ module _ {A : Type 0} (clash : A → A → Bool) (l : List A) where
 
 -- every row passes: of each index, and back
 pub all_at : {A : Type 0} (p : A → Bool) (l : List A) → all_of p l ≡ true → (j : ℕ) → j < length l → (d : A) → p (get_or l j d) ≡ true
-unfolding all_of
 all_at p [] e j h d = absurd (not-suc-le-zero h)
 all_at p (x ∷ xs) e zero h d = and_left (p x) (all_of p xs) e
 all_at p (x ∷ xs) e (suc j) h d = all_at p xs (and_right (p x) (all_of p xs) e) j (le_of_suc-le-suc h) d
 
 pub at_all : {A : Type 0} (p : A → Bool) (l : List A) (d : A) → ((j : ℕ) → j < length l → p (get_or l j d) ≡ true) → all_of p l ≡ true
-unfolding all_of
 at_all p [] d f = refl
 at_all p (x ∷ xs) d f = and_both (f 0 (omega arith)) (at_all p xs d (λ j h. f (suc j) (omega arith)))
 
 -- some row passes: none does at each index, and back
 pub none_at : {A : Type 0} (p : A → Bool) (l : List A) → any_of p l ≡ false → (j : ℕ) → j < length l → (d : A) → p (get_or l j d) ≡ false
-unfolding any_of
 none_at p [] e j h d = absurd (not-suc-le-zero h)
 none_at p (x ∷ xs) e zero h d = or_left (p x) (any_of p xs) e
 none_at p (x ∷ xs) e (suc j) h d = none_at p xs (or_right (p x) (any_of p xs) e) j (le_of_suc-le-suc h) d
 
 pub at_none : {A : Type 0} (p : A → Bool) (l : List A) (d : A) → ((j : ℕ) → j < length l → p (get_or l j d) ≡ false) → any_of p l ≡ false
-unfolding any_of
 at_none p [] d f = refl
 at_none p (x ∷ xs) d f = or_none (f 0 (omega arith)) (at_none p xs d (λ j h. f (suc j) (omega arith)))
 
@@ -99,7 +89,6 @@ at_found p l k j d h e = some_found p l k (at_any p l j d h e)
 
 -- every row, or some row, passes a weaker test
 pub all_weaker : {A : Type 0} (p q : A → Bool) (l : List A) → ((x : A) → p x ≡ true → q x ≡ true) → all_of p l ≡ true → all_of q l ≡ true
-unfolding all_of
 all_weaker p q [] f e = refl
 all_weaker p q (x ∷ xs) f e =
     and_both (f x (and_left (p x) (all_of p xs) e)) (all_weaker p q xs f (and_right (p x) (all_of p xs) e))
@@ -115,7 +104,6 @@ both_step true false false d = refl
 both_step false b c d = refl
 
 pub all_both : {A : Type 0} (p q r : A → Bool) (l : List A) → ((x : A) → r x ≡ (p x && q x)) → all_of r l ≡ (all_of p l && all_of q l)
-unfolding all_of
 all_both p q r [] f = refl
 all_both p q r (x ∷ xs) f = rw (f x, all_both p q r xs f) (both_step (p x) (q x) (all_of p xs) (all_of q xs))
 
@@ -125,29 +113,24 @@ not_step true b = refl
 not_step false b = refl
 
 pub all_not : {A : Type 0} (p q : A → Bool) (l : List A) → ((x : A) → q x ≡ not (p x)) → all_of q l ≡ not (any_of p l)
-unfolding all_of any_of
 all_not p q [] f = refl
 all_not p q (x ∷ xs) f = rw (f x, all_not p q xs f) (not_step (p x) (any_of p xs))
 
 -- of two lists joined, and of one row repeated
 module _ {A : Type 0} (p : A → Bool) where
   pub all_append : (l m : List A) → all_of p (l ++ m) ≡ (all_of p l && all_of p m)
-  unfolding all_of
   all_append [] m = refl
   all_append (x ∷ xs) m = rw (all_append xs m) (sym (and_assoc (p x) (all_of p xs) (all_of p m)))
 
   pub any_append : (l m : List A) → any_of p (l ++ m) ≡ (any_of p l || any_of p m)
-  unfolding any_of
   any_append [] m = refl
   any_append (x ∷ xs) m = rw (any_append xs m) (sym (or_assoc (p x) (any_of p xs) (any_of p m)))
 
   pub all_replicate : (n : ℕ) (x : A) → p x ≡ true → all_of p (replicate n x) ≡ true
-  unfolding all_of
   all_replicate zero x e = refl
   all_replicate (suc n) x e = and_both e (all_replicate n x e)
 
   pub any_replicate : (n : ℕ) (x : A) → p x ≡ false → any_of p (replicate n x) ≡ false
-  unfolding any_of
   any_replicate zero x e = refl
   any_replicate (suc n) x e = or_none e (any_replicate n x e)
 

@@ -5,37 +5,16 @@
 ghost use Rattle.std.specs.Prelude.{◌≡◌};
 ghost use Rattle.lists.specs.Bytes.{same_bytes, starts_with};
 
-// What a search in a table finds: the index of a row, or nothing.
-#[derive(Clone, Copy)]
-pub enum Found {
-    At(usize),
-    Nothing,
-}
-
 // Whether the bytes of s begin with those of prefix.
 pub fn starts_with(prefix: &[u8], s: &[u8]) -> bool
     ensures { result ≡ starts_with prefix.now s.now }
 {
-    if s.len() < prefix.len() {
-        return false;
-    }
-    let mut same = true;
-    let mut i: usize = 0;
-    while i < prefix.len() {
-        if prefix[i] != s[i] {
-            same = false;
-        }
-        i += 1;
-    }
-    same
+    s.starts_with(prefix)
 }
 
 // Whether two slices hold the same bytes.
 pub fn same_bytes(a: &[u8], b: &[u8]) -> bool
     ensures { result ≡ same_bytes a.now b.now }
 {
-    if a.len() != b.len() {
-        return false;
-    }
-    starts_with(a, b)
+    a == b
 }

@@ -1,8 +1,9 @@
 -- What a replay that gives the desk as bytes answers, and what it leaves in all that is lent to it: the transcript, the desk and the
 -- transcript's length, or, where one of the two buffers is too short, what was there. Assumes nothing.
-use Rattle.std.specs.Prelude.{Bool, ◌||◌, cond, List, ◌++◌, ℕ, eqb, ltb, length, drop}
+use Rattle.std.specs.Prelude.{Bool, ◌||◌, cond, List, ◌++◌, ℕ, ltb, length, drop, Result, Ok, Err}
 use Rattle.rules.specs.Numbers.{ROOM}
 use Rattle.printed.specs.Room.{room_for}
+use Rattle.transcripts.specs.declared.ReplayError.{ReplayError}
 use Rattle.transcripts.specs.Replay.{desk_after}
 use Rattle.printed.specs.Transcript as printed
 use Rattle.desk_bytes.specs.Layout.{desk_bytes, desk_length}
@@ -29,6 +30,7 @@ module _ (journal transcript desk : List ℕ) where
   unfoldable pub length_left : ℕ → ℕ
   length_left before = cond too_short before (length (printed.transcript journal))
 
--- a buffer for the desk after a replay that answered the number: the desk after the journal where that is 0 and there is room for it
-unfoldable pub desk_where : ℕ → List ℕ → List ℕ → List ℕ
-desk_where number journal desk = cond (eqb number 0) (desks.buffer_of (desk_after journal) desk) desk
+-- a buffer for the desk after a replay with this answer: the desk after the journal where that is no refusal and there is room for it
+unfoldable pub desk_where : Result ℕ ReplayError → List ℕ → List ℕ → List ℕ
+desk_where (Ok len) journal desk = desks.buffer_of (desk_after journal) desk
+desk_where (Err e) journal desk = desk

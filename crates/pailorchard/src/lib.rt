@@ -7,17 +7,17 @@ ghost use Rattle.amount.specs.Amount.{amount_of, read_number};
 ghost use Rattle.amount.specs.Writing.{written_of, written_number, buffer_after};
 ghost use Rattle.text.specs.Text.{is_path, is_prefix, is_name};
 ghost use Rattle.rules.specs.Sound.{sound};
-ghost use Rattle.transcripts.specs.Replay.{answer_of, buffer_of, replayed_of};
+ghost use Rattle.transcripts.specs.Replay.{answer_of, answer_number, buffer_of, replayed_of};
 ghost use Rattle.printed.specs.Room.{room_for};
 ghost use Rattle.desk_bytes.specs.Layout.{desk_length};
 ghost use Rattle.pailorchard.specs.DeskAfter.{desk_number, transcript_left, desk_left, length_left, desk_where};
 ghost use Rattle.pailorchard.specs.Results.{cap_of, limited_after, bytes_after, length_after, written_after, tests_passed};
 
-use amount::{Cap, ReadAmount, Written};
-use journal::Written as Replay;
+use amount::Cap;
 use rules::Desk;
 use rules::numbers::ROOM;
 use soundness::is_sound;
+use transcripts::ReplayError;
 
 // Whether a text is a path of 01 and W1.
 #[unsafe(no_mangle)]
@@ -44,6 +44,7 @@ pub extern "C" fn pailorchard_is_name(text: &[u8]) -> bool
 }
 
 // Reads a typed amount: 0, with whether it is a count of bytes and the count; or 22, 23 or 24.
+#[tactic(auto, unfolding(crate::specs::Results::limited_after, crate::specs::Results::bytes_after))]
 #[unsafe(no_mangle)]
 pub extern "C" fn pailorchard_read_amount(text: &[u8], limited: &mut bool, bytes: &mut u64) -> u32
     ensures value { result ≡ read_number (amount_of text.now) }
@@ -51,23 +52,21 @@ pub extern "C" fn pailorchard_read_amount(text: &[u8], limited: &mut bool, bytes
     ensures bytes_after { bytes.new ≡ bytes_after (amount_of text.now) bytes.old }
 {
     match amount::read_amount(text) {
-        ReadAmount::Read(cap) => {
-            match cap {
-                Cap::Unlimited => {
-                    *limited = false;
-                    *bytes = 0;
-                }
-                Cap::Bytes(n) => {
-                    *limited = true;
-                    *bytes = n;
-                }
-            }
+        Ok(Cap::Unlimited) => {
+            *limited = false;
+            *bytes = 0;
             0
         }
-        ReadAmount::Refused(number) => number,
+        Ok(Cap::Bytes(n)) => {
+            *limited = true;
+            *bytes = n;
+            0
+        }
+        Err(error) => error.number(),
     }
 }
 
+#[tactic(auto, unfolding(crate::specs::Results::cap_of))]
 fn cap_of(limited: bool, bytes: u64) -> Cap
     ensures { result ≡ cap_of limited bytes }
 {
@@ -79,6 +78,7 @@ fn cap_of(limited: bool, bytes: u64) -> Cap
 }
 
 // Writes an amount as text: 0, with its length; or 24 or 12. Where there is no limit, `bytes` is not looked at.
+#[tactic(auto, unfolding(crate::specs::Results::length_after))]
 #[unsafe(no_mangle)]
 pub extern "C" fn pailorchard_write_amount(
     limited: bool,
@@ -91,11 +91,11 @@ pub extern "C" fn pailorchard_write_amount(
     ensures written_after { written.new ≡ length_after (written_of (cap_of limited bytes) (length out.old)) written.old }
 {
     match amount::write_amount(cap_of(limited, bytes), out) {
-        Written::Length(n) => {
+        Ok(n) => {
             *written = n;
             0
         }
-        Written::Refused(number) => number,
+        Err(error) => error.number(),
     }
 }
 
@@ -110,16 +110,17 @@ pub extern "C" fn pailorchard_replay_room(journal: usize) -> usize
 // Replays a journal on a fresh desk: 0, with its transcript at the start of the buffer and the transcript's length; or 12.
 #[unsafe(no_mangle)]
 pub extern "C" fn pailorchard_replay(journal: &[u8], out: &mut [u8], written: &mut usize) -> u32
-    ensures value { result ≡ (answer_of journal.now out.old).number }
+    ensures value { result ≡ answer_number (answer_of journal.now out.old) }
     ensures out_after { out.new ≡ buffer_of journal.now out.old }
-    ensures written_after { written.new ≡ written_after (answer_of journal.now out.old).number (answer_of journal.now out.old).len written.old }
+    ensures written_after { written.new ≡ written_after (answer_of journal.now out.old) written.old }
 {
-    let r = transcripts::replay_into(journal, out);
-    let number = r.number;
-    if number == 0 {
-        *written = r.len;
+    match transcripts::replay_into(journal, out) {
+        Ok(len) => {
+            *written = len;
+            0
+        }
+        Err(error) => error.number(),
     }
-    number
 }
 
 // How many bytes the desk has.
@@ -131,20 +132,20 @@ pub extern "C" fn pailorchard_desk_room() -> usize
 }
 
 // Replays a journal, and writes the desk after it where there is a transcript.
-fn replay_with_desk(journal: &[u8], transcript: &mut [u8], desk: &mut [u8]) -> Replay
+fn replay_with_desk(
+    journal: &[u8],
+    transcript: &mut [u8],
+    desk: &mut [u8],
+) -> Result<usize, ReplayError>
     ensures value { result ≡ answer_of journal.now transcript.old }
     ensures transcript_after { transcript.new ≡ buffer_of journal.now transcript.old }
-    ensures desk_after { desk.new ≡ desk_where (answer_of journal.now transcript.old).number journal.now desk.old }
+    ensures desk_after { desk.new ≡ desk_where (answer_of journal.now transcript.old) journal.now desk.old }
 {
     let r = transcripts::replay(journal, transcript);
-    let number = r.number;
-    let len = r.len;
-    if number != 0 {
-        return Replay { number, len };
+    if r.written.is_ok() {
+        desk_bytes::write_desk(r.desk, desk);
     }
-    let d = r.desk;
-    desk_bytes::write_desk(d, desk);
-    Replay { number, len }
+    r.written
 }
 
 // Replays a journal on a fresh desk: 0, with its transcript, the transcript's length, and the desk after the journal as bytes; or 12,
@@ -164,12 +165,13 @@ pub extern "C" fn pailorchard_desk_after(
     if desk.len() < desk_bytes::desk_room() {
         return ROOM;
     }
-    let r = replay_with_desk(journal, transcript, desk);
-    let number = r.number;
-    if number == 0 {
-        *written = r.len;
+    match replay_with_desk(journal, transcript, desk) {
+        Ok(len) => {
+            *written = len;
+            0
+        }
+        Err(error) => error.number(),
     }
-    number
 }
 
 // Tests a desk so many times, and gives how many of the tests it passed. Its slots are stored again between them, so that each test is
@@ -198,9 +200,8 @@ pub extern "C" fn pailorchard_test_desk(journal: &[u8], transcript: &mut [u8], t
     ensures transcript_after { transcript.new ≡ buffer_of journal.now transcript.old }
 {
     let r = transcripts::replay(journal, transcript);
-    if r.number != 0 {
+    if r.written.is_err() {
         return 0;
     }
-    let d = r.desk;
-    passed(d, times)
+    passed(r.desk, times)
 }

@@ -2,6 +2,7 @@
 #![tactic(auto)]
 
 ghost use Rattle.std.specs.Prelude.{◌≡◌, get_or, set};
+ghost use Rattle.rules.specs.Numbers.{refusal_number};
 ghost use Rattle.rules.specs.Fresh.{fresh_session};
 ghost use Rattle.rules.specs.Outcome.{desk_refused, on_tables};
 ghost use Rattle.rules.specs.Calls.{with_slot};
@@ -17,17 +18,24 @@ use commits::CommitOutcome;
 use epochs::AdvanceOutcome;
 use relays::RelaysOutcome;
 use removes::RemoveOutcome;
-use rules::{Answer, Desk, Outcome, Session, fresh_session};
+use rules::{Answer, Desk, Outcome, Refusal, Session, fresh_session};
 use sessions::SessionOutcome;
 use tokens::TokensOutcome;
 use volumes::{DeleteOutcome, VolumesOutcome};
 
-// A refusal gives the desk back as it came.
-pub fn refuse(d: Desk, n: u32) -> Outcome
+// A refusal of this number gives the desk back as it came.
+pub fn refuse_numbered(d: Desk, n: u32) -> Outcome
     ensures { result ≡ desk_refused d n }
 {
-    let answer = rules::refusal(n);
+    let answer = rules::numbered_refusal(n);
     Outcome { answer, desk: d }
+}
+
+// The same of a reason.
+pub fn refuse(d: Desk, why: Refusal) -> Outcome
+    ensures { result ≡ desk_refused d (refusal_number why) }
+{
+    refuse_numbered(d, why.number())
 }
 
 // Of a call that changes nothing.

@@ -1,12 +1,12 @@
 -- A relay, and the relays, after an object is placed, or as they were where a number would not fit. Assumes nothing.
-use mathlib.Core.Path.{◌≡◌, refl, sym, ◌∙◌, ap}
-use mathlib.Core.Bool.{Bool, true, false, not}
+use mathlib.Core.Path.{◌≡◌, refl, sym, ◌∙◌}
+use mathlib.Core.Bool.{Bool, true, false, cond}
+use Rattle.std.specs.Prelude.{Option, Some, None}
 use mathlib.Core.List.{List, map}
-use Prim.Native.Nat.{ℕ, ◌+◌, ◌-◌, ◌^◌, ◌<◌, ◌≤◌}
+use Prim.Native.Nat.{ℕ, ◌+◌, ◌<◌, ◌≤◌}
 use native.Mathlib.Omega.{arith}
 use borrow.Author.Rules.{rules}
-use borrow.Author.Tests.{not-true, not-false, le-leb, lt-leb}
-use lib.Dec.{leb}
+use borrow.Author.Tests.{le-leb, lt-leb}
 use lib.ListN.{length, get_or, set, take}
 use Rattle.lists.specs.Lists.{any_of}
 use Rattle.lists.specs.LoopLaws.{AllLoop, all_start, all_step, all_failed, all_passed}
@@ -16,33 +16,27 @@ use Rattle.rules.specs.declared.Placement.{Placement}
 use Rattle.rules.specs.declared.Relay.{Relay}
 use Rattle.rules.specs.Tables.{with_room}
 use Rattle.rules.specs.Relays.{holds_shard, loaded}
-use Rattle.placing.specs.declared.LoadedRow.{LoadedRow}
 use Rattle.placing.specs.Room.{relay_number, is_number, can_load, can_load_all, loaded_if, loaded_rows, most_bytes, most_shards}
 use Rattle.placing.proofs.RoomLaws.{holds_number}
 
 -- b is what the code said of the relay's number
 module _ (bytes : ℕ) (has : Bool) (r : Relay) (b : Bool) (e : b ≡ has) where
-  pub none_taken : not b ≡ true → record { fits = true; row = r } ≡ loaded_if has bytes r
+  pub none_taken : b ≡ false → Some r ≡ loaded_if has bytes r
   unfolding loaded_if
-  none_taken t = sym (rw (sym e ∙ not-true b t))
+  none_taken t = sym (rw (sym e ∙ t))
 
-  module _ (t : not b ≡ false) where
-    pub too_many_bytes : most_bytes - r.used < bytes → record { fits = false; row = r } ≡ loaded_if has bytes r
+  module _ (t : b ≡ true) where
+    pub too_many_bytes : most_bytes < r.used + bytes → None ≡ loaded_if has bytes r
     unfolding loaded_if
-    too_many_bytes h = sym (rw (sym e ∙ not-false b t, lt-leb (r.used + bytes) most_bytes (omega arith)))
+    too_many_bytes h = sym (rw (sym e ∙ t, lt-leb (r.used + bytes) most_bytes h))
 
-    module _ (h : bytes ≤ most_bytes - r.used) where
-      within : r.used < 2 ^ 64 → leb (r.used + bytes) most_bytes ≡ true
-      within u = le-leb (r.used + bytes) most_bytes (omega arith)
+    pub too_many_shards : r.used + bytes ≤ most_bytes → most_shards < r.held + 1 → None ≡ loaded_if has bytes r
+    unfolding loaded_if
+    too_many_shards h k = sym (rw (sym e ∙ t, le-leb (r.used + bytes) most_bytes h, lt-leb (r.held + 1) most_shards k))
 
-      pub too_many_shards : r.used < 2 ^ 64 → most_shards ≤ r.held → record { fits = false; row = r } ≡ loaded_if has bytes r
-      unfolding loaded_if
-      too_many_shards u k = sym (rw (sym e ∙ not-false b t, within u, lt-leb (r.held + 1) most_shards (omega arith)))
-
-      pub one_taken : r.used < 2 ^ 64 → r.held < most_shards
-          → record { fits = true; row = with_room r (r.used + bytes) (r.held + 1) } ≡ loaded_if has bytes r
-      unfolding loaded_if
-      one_taken u k = sym (rw (sym e ∙ not-false b t, within u, le-leb (r.held + 1) most_shards (omega arith)))
+    pub one_taken : r.used + bytes ≤ most_bytes → r.held + 1 ≤ most_shards → Some (with_room r (r.used + bytes) (r.held + 1)) ≡ loaded_if has bytes r
+    unfolding loaded_if
+    one_taken h k = sym (rw (sym e ∙ t, le-leb (r.used + bytes) most_bytes h, le-leb (r.held + 1) most_shards k))
 
 pub ruleset loads-row = (none_taken, too_many_bytes, too_many_shards, one_taken, rules)
 
@@ -65,7 +59,7 @@ module _ (bytes : ℕ) (p : Placement) (numbers : List ℕ) (rows : List Relay) 
     pub load_size : length out ≡ length rows
     load_size = h.stored.size
 
-    pub load_end : n ≤ i → record { fits = true; rows = out } ≡ loaded_rows bytes p rows
+    pub load_end : n ≤ i → Some out ≡ loaded_rows bytes p rows
     unfolding loaded_rows can_load_all
     load_end k =
         let a = all_passed (can_load bytes p) rows n i h.fitting k in
@@ -74,29 +68,37 @@ module _ (bytes : ℕ) (p : Placement) (numbers : List ℕ) (rows : List Relay) 
         rw (← a, w)
 
     -- x is what the code made of row i
-    module _ (d : Relay) (x : LoadedRow) (k : i < n)
+    module _ (d : Relay) (x : Option Relay) (k : i < n)
         (e : x ≡ loaded_if (any_of (is_number (get_or rows i d).no.0) (take p.len numbers)) bytes (get_or rows i d)) where
       by_place : x ≡ loaded_if (holds_shard (get_or rows i d).no p) bytes (get_or rows i d)
       by_place = e ∙ rw (holds_number (get_or rows i d).no p numbers _ refl h.listed)
 
-      fits_row : x.fits ≡ can_load bytes p (get_or rows i d)
-      unfolding loaded_if can_load
-      fits_row = ap (λ (y : LoadedRow). y.fits) by_place
-
-      pub load_fails : not x.fits ≡ true → record { fits = false; rows = rows } ≡ loaded_rows bytes p rows
-      unfolding loaded_rows can_load_all
-      load_fails t = let a = all_failed d (can_load bytes p) rows n i x.fits h.fitting k fits_row t in rw (← a)
-
-      made_row : not x.fits ≡ false → x.row ≡ loaded bytes p (get_or rows i d)
+      -- by whether the row fits
+      made : (b : Bool) → can_load bytes p (get_or rows i d) ≡ b → x ≡ cond b (Some (loaded bytes p (get_or rows i d))) None
       unfolding loaded_if can_load loaded
-      made_row t = ap (λ (y : LoadedRow). y.row) by_place ∙ rw (sym fits_row ∙ not-false x.fits t)
+      made b f = by_place ∙ rw f
 
-      pub load_step : not x.fits ≡ false → LoadLoop bytes p numbers rows n (i + 1) (set out i x.row)
-      load_step t =
+      fails : x ≡ None → (b : Bool) → can_load bytes p (get_or rows i d) ≡ b → b ≡ false
+      fails t true f = absurd (let z : ◌≡◌ {A = ℕ} 0 1 = cc (made true f) in omega arith)
+      fails t false f = refl
+
+      pub load_fails : x ≡ None → None ≡ loaded_rows bytes p rows
+      unfolding loaded_rows can_load_all
+      load_fails t =
+          let f : can_load bytes p (get_or rows i d) ≡ false = fails t _ refl in
+          let a = all_failed d (can_load bytes p) rows n i false h.fitting k (sym f) refl in rw (← a)
+
+      fits : (y : Relay) → x ≡ Some y → (b : Bool) → can_load bytes p (get_or rows i d) ≡ b → (b ≡ true) × (y ≡ loaded bytes p (get_or rows i d))
+      fits y t true f = (refl, cc (made true f))
+      fits y t false f = absurd (let z : ◌≡◌ {A = ℕ} 0 1 = cc (made false f) in omega arith)
+
+      pub load_step : (y : Relay) → x ≡ Some y → LoadLoop bytes p numbers rows n (i + 1) (set out i y)
+      load_step y t =
+          let f = fits y t _ refl in
           record {
             listed = h.listed;
-            fitting = all_step d (can_load bytes p) rows n i x.fits h.fitting k fits_row t;
-            stored = fill_step_of (loaded bytes p) d rows rows n i out x.row h.stored k (made_row t);
+            fitting = all_step d (can_load bytes p) rows n i true h.fitting k (sym f.0) refl;
+            stored = fill_step_of (loaded bytes p) d rows rows n i out y h.stored k f.1;
           }
 
 pub ruleset loads = (load_step, load_fails, load_end, load_size, load_start, rows_length, rules)

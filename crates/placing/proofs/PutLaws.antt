@@ -1,17 +1,17 @@
 -- The answers of placing one put: which check ends it, and what it is where none does. Assumes nothing.
-use mathlib.Core.Path.{◌≡◌, sym, ◌∙◌, ap}
-use mathlib.Core.Bool.{Bool, true, false, not}
-use mathlib.Core.List.{List}
+use mathlib.Core.Path.{◌≡◌, refl, sym, ◌∙◌}
+use mathlib.Core.Bool.{Bool, true, false, cond}
+use mathlib.Core.List.{List, map}
+use Rattle.std.specs.Prelude.{Option, Some, None}
 use Prim.Native.Nat.{ℕ, ◌+◌, ◌<◌, ◌≤◌, min}
 use native.Mathlib.Omega.{arith}
 use borrow.Author.Rules.{rules}
-use borrow.Author.Tests.{not-true, not-false, lt-ltb, le-ltb}
+use borrow.Author.Tests.{lt-ltb, le-ltb}
 use lib.Count.{ones}
 use lib.Dec.{ltb}
 use Rattle.rules.specs.declared.Placement.{Placement}
 use Rattle.rules.specs.declared.Relay.{Relay}
-use Rattle.rules.specs.Relays.{shard_size, eligible_set, too_few, taken, placement_of}
-use Rattle.placing.specs.declared.Loaded.{Loaded}
+use Rattle.rules.specs.Relays.{shard_size, eligible_set, too_few, taken, placement_of, loaded}
 use Rattle.placing.specs.declared.PlacedPut.{PlacedPut}
 use Rattle.placing.specs.Order.{taken_in}
 use Rattle.placing.specs.OrderLaws.{taken_set}
@@ -19,20 +19,26 @@ use Rattle.placing.specs.Room.{can_load_all, loaded_rows}
 use Rattle.placing.specs.Put.{not_placed, took_place, placed_put}
 
 -- l is the relays after they took the shards
-module _ (bytes : ℕ) (p : Placement) (rs : List Relay) (l : Loaded) (e : l ≡ loaded_rows bytes p rs) where
-  fits_all_lem : l.fits ≡ can_load_all bytes p rs
+module _ (bytes : ℕ) (p : Placement) (rs : List Relay) (l : Option (List Relay)) (e : l ≡ loaded_rows bytes p rs) where
+  made : (b : Bool) → can_load_all bytes p rs ≡ b → l ≡ cond b (Some (map (loaded bytes p) rs)) None
   unfolding loaded_rows
-  fits_all_lem = ap (λ (x : Loaded). x.fits) e
+  made b f = e ∙ rw f
 
-  pub no_number : (x : PlacedPut) → not l.fits ≡ true → x ≡ not_placed rs → x ≡ took_place bytes p rs
+  no_number_by : (x : PlacedPut) → l ≡ None → x ≡ not_placed rs → (b : Bool) → can_load_all bytes p rs ≡ b → x ≡ took_place bytes p rs
   unfolding took_place
-  no_number x t q = q ∙ sym (rw (sym fits_all_lem ∙ not-true l.fits t))
+  no_number_by x t q true f = absurd (let z : ◌≡◌ {A = ℕ} 0 1 = cc (made true f) in omega arith)
+  no_number_by x t q false f = q ∙ sym (rw f)
 
-  pub took : not l.fits ≡ false → record { placed = true; place = p; rows = l.rows } ≡ took_place bytes p rs
-  unfolding took_place loaded_rows
-  took t =
-      let f : can_load_all bytes p rs ≡ true = sym fits_all_lem ∙ not-false l.fits t in
-      rw (e, f)
+  pub no_number : (x : PlacedPut) → l ≡ None → x ≡ not_placed rs → x ≡ took_place bytes p rs
+  no_number x t q = no_number_by x t q _ refl
+
+  took_by : (rows : List Relay) → l ≡ Some rows → (b : Bool) → can_load_all bytes p rs ≡ b → record { placed = true; place = p; rows = rows } ≡ took_place bytes p rs
+  unfolding took_place
+  took_by rows t true f = let q : rows ≡ map (loaded bytes p) rs = cc (made true f) in rw (f, q)
+  took_by rows t false f = absurd (let z : ◌≡◌ {A = ℕ} 0 1 = cc (made false f) in omega arith)
+
+  pub took : (rows : List Relay) → l ≡ Some rows → record { placed = true; place = p; rows = rows } ≡ took_place bytes p rs
+  took rows t = took_by rows t _ refl
 
 -- one put
 module _ (clock k m size : ℕ) (rs : List Relay) (x : PlacedPut) where

@@ -29,7 +29,6 @@ take_map f (suc n) (x ∷ xs) = ap (λ ys. f x ∷ ys) (take_map f n xs)
 
 -- whether a placement has a shard on a relay, by a list of the numbers of its relays
 any_number : (n : RelayNo) (l : List RelayNo) → any_of (is_number n.0) (map relay_number l) ≡ any_of (same_relay n) l
-unfolding any_of
 any_number n [] = refl
 any_number n (m ∷ ms) = rw (any_number n ms)
 

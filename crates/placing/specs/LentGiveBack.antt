@@ -65,7 +65,7 @@ module _ (vs : List Volume) where
 
   -- on any table that keeps the limits: the relays that a commit has loaded, too
   pub back_entries_lem : (gone : List Entry) (rows : List Relay) → table_fits clock_limit rows ≡ true → all_of placed_well gone ≡ true → back_entries vs gone rows ≡ map (lightened vs gone) rows
-  unfolding back_entries all_of
+  unfolding back_entries
   back_entries_lem [] rows f w = sym (map_same (lightened vs []) rows (after_none vs))
   back_entries_lem (e ∷ es) rows f w =
       let one = back_entry e rows f (and_left (placed_well e) (all_of placed_well es) w) in

@@ -1,14 +1,12 @@
 -- Document 01, "Relays": room and held shards that one object takes or gives back, and whether the machine's numbers have room for what it takes.
 -- Assumes nothing.
-use Rattle.std.specs.Prelude.{Bool, ◌&&◌, ◌||◌, cond, not, List, map, ℕ, ◌+◌, ◌-◌, ◌^◌, eqb, leb}
+use Rattle.std.specs.Prelude.{Bool, ◌&&◌, ◌||◌, cond, not, List, map, ℕ, ◌+◌, ◌-◌, ◌^◌, eqb, leb, Option, Some, None}
 use Rattle.lists.specs.Lists.{all_of}
 use Rattle.rules.specs.declared.RelayNo.{RelayNo}
 use Rattle.rules.specs.declared.Placement.{Placement}
 use Rattle.rules.specs.declared.Relay.{Relay}
 use Rattle.rules.specs.Tables.{with_room}
 use Rattle.rules.specs.Relays.{holds_shard, loaded}
-use Rattle.placing.specs.declared.Loaded.{Loaded}
-use Rattle.placing.specs.declared.LoadedRow.{LoadedRow}
 
 -- a relay's number as the code lists it, and whether a number of such a list is n
 abbrev pub relay_number : RelayNo → ℕ
@@ -39,12 +37,11 @@ can_load bytes p r = not (holds_shard r.no p) || (leb (r.used + bytes) most_byte
 unfoldable pub can_load_all : ℕ → Placement → List Relay → Bool
 can_load_all bytes p rs = all_of (can_load bytes p) rs
 
--- a relay, of which the Bool says whether it has a shard of the object, and the relays after the object is placed; as they were where a number would
--- not fit
-unfoldable pub loaded_if : Bool → ℕ → Relay → LoadedRow
+-- a relay, of which the Bool says whether it has a shard of the object, and the relays after the object is placed; none where a number would not fit
+unfoldable pub loaded_if : Bool → ℕ → Relay → Option Relay
 loaded_if has bytes r =
     let fits = not has || (leb (r.used + bytes) most_bytes && leb (r.held + 1) most_shards) in
-    record { fits = fits; row = cond fits (cond has (with_room r (r.used + bytes) (r.held + 1)) r) r }
+    cond fits (Some (cond has (with_room r (r.used + bytes) (r.held + 1)) r)) None
 
-unfoldable pub loaded_rows : ℕ → Placement → List Relay → Loaded
-loaded_rows bytes p rs = record { fits = can_load_all bytes p rs; rows = cond (can_load_all bytes p rs) (map (loaded bytes p) rs) rs }
+unfoldable pub loaded_rows : ℕ → Placement → List Relay → Option (List Relay)
+loaded_rows bytes p rs = cond (can_load_all bytes p rs) (Some (map (loaded bytes p) rs)) None

@@ -7,24 +7,14 @@ use super::order::rank;
 use super::set::eligible;
 use rules::{Placement, Relay, RelayNo};
 
-fn least(a: usize, b: usize) -> usize
-    ensures { result ≡ min a b }
-{
-    if a < b { a } else { b }
-}
-
 // The numbers of the relays with the first n keys.
 fn first_numbers(keys: &[u64; 32], n: usize) -> Placement
     requires { (length keys.now ≡ 32) × (n ≤ 24) }
     ensures { result ≡ placement_of (map key_number (take n keys.now)) }
 {
-    let none = RelayNo(0);
-    let mut relays = [none; 24];
-    let mut i: usize = 0;
-    while i < n {
-        let number = RelayNo((keys[i] % 4294967296) as u32);
-        relays[i] = number;
-        i += 1;
+    let mut relays = [RelayNo(0); 24];
+    for i in 0..n {
+        relays[i] = RelayNo((keys[i] % 4294967296) as u32);
     }
     Placement { relays, len: n }
 }
@@ -34,16 +24,12 @@ pub fn choose_from(set: u32, wanted: usize, rows: [Relay; 32]) -> Placement
     ensures { result ≡ placement_of (taken_in set (min wanted 24) rows) }
 {
     let order = rank(set, rows);
-    let most = least(wanted, 24);
-    let n = least(most, order.len);
-    let keys = order.keys;
-    first_numbers(&keys, n)
+    first_numbers(&order.keys, wanted.min(24).min(order.len))
 }
 
 // The relays that a put with shards of so many bytes takes, as many as are wanted and there are, and no more than 24.
 pub fn choose_relays(clock: u64, bytes: u64, wanted: usize, rows: [Relay; 32]) -> Placement
     ensures { result ≡ placement_of (taken clock bytes (min wanted 24) rows) }
 {
-    let set = eligible(clock, bytes, rows);
-    choose_from(set, wanted, rows)
+    choose_from(eligible(clock, bytes, rows), wanted, rows)
 }

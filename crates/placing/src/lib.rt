@@ -15,20 +15,6 @@ pub use room::{give_back_entry, give_back_one};
 use rules::{Placement, Relay};
 pub use set::{eligible, is_eligible, too_few};
 
-// A relay after it took a shard, or as it was where a number would not fit.
-#[derive(Clone, Copy)]
-pub struct LoadedRow {
-    pub fits: bool,
-    pub row: Relay,
-}
-
-// The relays after they took an object's shards, or as they were where a number would not fit.
-#[derive(Clone, Copy)]
-pub struct Loaded {
-    pub fits: bool,
-    pub rows: [Relay; 32],
-}
-
 // What placing one put gives: its placement and the relay table after its shards were taken, or that it has no place and the table as it was.
 #[derive(Clone, Copy)]
 pub struct PlacedPut {

@@ -9,13 +9,13 @@ use super::set::{eligible, too_few};
 use rows::shard_size;
 use rules::{Placement, Relay, fresh_placement};
 
+#[tactic(auto, unfolding(crate::specs::Put::not_placed))]
 fn not_placed(rows: [Relay; 32]) -> PlacedPut
     ensures { result ≡ not_placed rows }
 {
-    let place = fresh_placement();
     PlacedPut {
         placed: false,
-        place,
+        place: fresh_placement(),
         rows,
     }
 }
@@ -24,15 +24,13 @@ fn not_placed(rows: [Relay; 32]) -> PlacedPut
 fn take_place(rows: [Relay; 32], bytes: u64, place: Placement) -> PlacedPut
     ensures { result ≡ took_place bytes place rows }
 {
-    let after = load(rows, bytes, place);
-    if !after.fits {
+    let Some(rows) = load(rows, bytes, place) else {
         return not_placed(rows);
-    }
-    let next = after.rows;
+    };
     PlacedPut {
         placed: true,
         place,
-        rows: next,
+        rows,
     }
 }
 
@@ -41,7 +39,7 @@ fn take_place(rows: [Relay; 32], bytes: u64, place: Placement) -> PlacedPut
 pub fn place_put(clock: u64, k: u8, m: u8, size: u64, rows: [Relay; 32]) -> PlacedPut
     ensures { result ≡ placed_put clock k m size rows }
 {
-    let wanted = (k as usize) + (m as usize);
+    let wanted = usize::from(k) + usize::from(m);
     if 24 < wanted {
         return not_placed(rows);
     }
@@ -50,6 +48,5 @@ pub fn place_put(clock: u64, k: u8, m: u8, size: u64, rows: [Relay; 32]) -> Plac
     if too_few(set, wanted as u32) {
         return not_placed(rows);
     }
-    let place = choose_from(set, wanted, rows);
-    take_place(rows, bytes, place)
+    take_place(rows, bytes, choose_from(set, wanted, rows))
 }

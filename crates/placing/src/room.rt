@@ -8,42 +8,22 @@ use lent_relays::give_back_set;
 use rows::shard_bytes;
 use rules::{Entry, Placement, Relay, Volume};
 
-// How many of a placement's 24 places are in use.
-fn place_count(len: usize) -> usize
-    ensures { result ≡ min len 24 }
-{
-    if len < 24 { len } else { 24 }
-}
-
 // The relays' numbers, place by place.
 pub(crate) fn place_numbers(place: Placement) -> [u32; 24]
     ensures { result ≡ map relay_number place.relays }
 {
-    let relays = place.relays;
     let mut numbers: [u32; 24] = [0; 24];
-    let mut i: usize = 0;
-    while i < 24 {
-        let x = relays[i];
-        numbers[i] = x.0;
-        i += 1;
+    for i in 0..24 {
+        numbers[i] = place.relays[i].0;
     }
     numbers
 }
 
 // Whether one of the first `len` numbers is n.
 pub(crate) fn any_number(numbers: &[u32; 24], len: usize, n: u32) -> bool
-    requires { length numbers.now ≡ 24 }
     ensures { result ≡ any_of (is_number n) (take len numbers.now) }
 {
-    let count = place_count(len);
-    let mut i: usize = 0;
-    while i < count {
-        if numbers[i] == n {
-            return true;
-        }
-        i += 1;
-    }
-    false
+    numbers.iter().take(len).any(|number| *number == n)
 }
 
 // The rows that have a shard of the placement, one bit for each, the first row's lowest.
@@ -52,13 +32,10 @@ fn held_set(rows: [Relay; 32], place: Placement) -> u32
 {
     let numbers = place_numbers(place);
     let mut set: u32 = 0;
-    let mut i: usize = 0;
-    while i < 32 {
-        let row = rows[i];
-        if any_number(&numbers, place.len, row.no.0) {
+    for i in 0..32 {
+        if any_number(&numbers, place.len, rows[i].no.0) {
             set |= 1 << i;
         }
-        i += 1;
     }
     set
 }
@@ -67,8 +44,7 @@ fn held_set(rows: [Relay; 32], place: Placement) -> u32
 pub fn give_back_one(rows: [Relay; 32], bytes: u64, place: Placement) -> [Relay; 32]
     ensures { result ≡ map (lightened_by bytes place) rows }
 {
-    let set = held_set(rows, place);
-    give_back_set(rows, set, bytes)
+    give_back_set(rows, held_set(rows, place), bytes)
 }
 
 // The relays after one entry gave its room and held shards back. A free row gives none.
@@ -78,7 +54,5 @@ pub fn give_back_entry(rows: [Relay; 32], volumes: [Volume; 8], e: Entry) -> [Re
     if e.volume.0 == 0 {
         return rows;
     }
-    let bytes = shard_bytes(volumes, e);
-    let place = e.placement;
-    give_back_one(rows, bytes, place)
+    give_back_one(rows, shard_bytes(&volumes, &e), e.placement)
 }

@@ -10,33 +10,21 @@ use rules::Relay;
 fn has_health(clock: u64, beat: u64) -> bool
     ensures { result ≡ leb eligible_health (full_health - (clock - beat)) }
 {
-    if clock < beat {
-        return true;
-    }
-    clock - beat <= 50
+    clock.saturating_sub(beat) <= 50
 }
 
 // Whether so many bytes are unused. Where more is used than there is, no byte is.
 fn has_room(bytes: u64, capacity: u64, used: u64) -> bool
     ensures { result ≡ leb bytes (capacity - used) }
 {
-    if capacity < used {
-        return bytes == 0;
-    }
-    bytes <= capacity - used
+    bytes <= capacity.saturating_sub(used)
 }
 
 // Whether the row holds a relay in good health with that much capacity unused.
 pub fn is_eligible(clock: u64, bytes: u64, row: Relay) -> bool
     ensures { result ≡ is_eligible clock bytes row }
 {
-    if row.no.0 == 0 {
-        return false;
-    }
-    if !has_health(clock, row.beat) {
-        return false;
-    }
-    has_room(bytes, row.capacity, row.used)
+    row.no.0 != 0 && has_health(clock, row.beat) && has_room(bytes, row.capacity, row.used)
 }
 
 // The rows that are eligible, one bit for each, the first row's lowest.
@@ -44,13 +32,10 @@ pub fn eligible(clock: u64, bytes: u64, rows: [Relay; 32]) -> u32
     ensures { result ≡ eligible_set clock bytes rows }
 {
     let mut set: u32 = 0;
-    let mut i: usize = 0;
-    while i < 32 {
-        let row = rows[i];
-        if is_eligible(clock, bytes, row) {
+    for i in 0..32 {
+        if is_eligible(clock, bytes, rows[i]) {
             set |= 1 << i;
         }
-        i += 1;
     }
     set
 }
@@ -59,5 +44,5 @@ pub fn eligible(clock: u64, bytes: u64, rows: [Relay; 32]) -> u32
 pub fn too_few(set: u32, wanted: u32) -> bool
     ensures { result ≡ ltb (ones set) wanted }
 {
-    u32::count_ones(set) < wanted
+    set.count_ones() < wanted
 }

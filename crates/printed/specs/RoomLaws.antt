@@ -1,7 +1,6 @@
 -- The transcript of a journal fits a buffer of `room_for` its length. Assumes nothing.
-use Rattle.std.specs.Prelude.{◌≡◌, refl, Bool, true, false, cond, List, [], ◌∷◌, ℕ, zero, suc, ◌+◌, ◌*◌, ◌^◌, ◌<◌, ◌≤◌, min, ltb, length}
-use Rattle.std.proofs.Math.Option.{Option, none, some}
-use Rattle.std.proofs.Math.Nat.{min-eq_left, min-eq_right}
+use Rattle.std.specs.Prelude.{◌≡◌, refl, Bool, true, false, cond, List, [], ◌∷◌, ℕ, zero, suc, ◌+◌, ◌*◌, ◌^◌, ◌<◌, ◌≤◌, min, ltb, length, Option, None, Some}
+use Rattle.std.proofs.Math.Nat.{min-eq_left}
 use Rattle.std.proofs.Common.{arith, ltb-false, lit<, length-append}
 use Rattle.std.proofs.Math.Pow.{are_bytes}
 use Rattle.lists.specs.BoolLaws.{and_right}
@@ -29,7 +28,7 @@ unfolding step
 answered c d i = rw i.passes
 
 -- a record that stands for a call has 3 bytes or more with its length
-some_body : (v : Version) (body : List ℕ) (c : Call) → read_record v body ≡ some c → 1 ≤ length body
+some_body : (v : Version) (body : List ℕ) (c : Call) → read_record v body ≡ Some c → 1 ≤ length body
 unfolding read_record parse
 some_body v [] c e = absurd (let z : ◌≡◌ {A = ℕ} 0 1 = cc in omega arith)
 some_body v (b ∷ l) c e = omega arith
@@ -54,8 +53,8 @@ module _ (v : Version) (l : List ℕ) (h : are_bytes l ≡ true) (n : ℕ) (d : 
     (others : (rest : List ℕ) → length rest < length l → RecordsFit v rest) where
   call_fits : (body rest : List ℕ) → framed l ≡ found body rest → (o : Option Call) → read_record v body ≡ o
       → length (printed_from n d (on_call o (records v rest))) ≤ most l
-  call_fits body rest e none r = stop_fits n RECORD d l f (lit< tt)
-  call_fits body rest e (some c) r =
+  call_fits body rest e None r = stop_fits n RECORD d l f (lit< tt)
+  call_fits body rest e (Some c) r =
       let a = apart l body rest h e in
       let w = some_body v body c r in
       let z : Small (step c d).answer = rw (answered c d i) (small_answer c d i.passes) in
@@ -91,8 +90,8 @@ contents_fit l h = on_size (ltb journal_most (length l)) refl
 
     on_byte : (b : ℕ) (m : List ℕ) → are_bytes (b ∷ m) ≡ true → length (b ∷ m) ≤ journal_most → (o : Option Version)
         → length (printed_from 0 (fresh_desk program_rate) (on_version o m)) ≤ 14 + 10 * length (b ∷ m)
-    on_byte b m h s (some v) = omega (arith, records_fit v (length m) m (omega arith) (and_right (ltb b 256) (are_bytes m) h) 0 (fresh_desk program_rate) (fresh_holds program_rate) (omega arith))
-    on_byte b m h s none = omega (arith, stop_fits 0 VERSION (fresh_desk program_rate) [] (lit< tt) (lit< tt))
+    on_byte b m h s (Some v) = omega (arith, records_fit v (length m) m (omega arith) (and_right (ltb b 256) (are_bytes m) h) 0 (fresh_desk program_rate) (fresh_holds program_rate) (omega arith))
+    on_byte b m h s None = omega (arith, stop_fits 0 VERSION (fresh_desk program_rate) [] (lit< tt) (lit< tt))
 
     read : (m : List ℕ) → are_bytes m ≡ true → length m ≤ journal_most → length (printed_from 0 (fresh_desk program_rate) (versioned m)) ≤ 14 + 10 * length m
     read [] h s = stop_fits 0 VERSION (fresh_desk program_rate) [] (lit< tt) (lit< tt)
@@ -109,14 +108,6 @@ unfolding transcript room_for
 transcript_fits l h = rw (from_start (contents l), length-append first_line (printed_from 0 (fresh_desk program_rate) (contents l))) (omega (arith, contents_fit l h))
 
 -- ---- the room that is stated
-
-pub room_large : (n : ℕ) → journal_most < n → 21 + 10 * journal_most ≡ room_for n
-unfolding room_for
-room_large n h = let k : journal_most ≤ n = omega arith in rw (min-eq_right k)
-
-pub room_small : (n : ℕ) → n ≤ journal_most → 21 + 10 * n ≡ room_for n
-unfolding room_for
-room_small n h = rw (min-eq_left h)
 
 pub least_room : (n : ℕ) → 21 ≤ room_for n
 unfolding room_for

@@ -8,11 +8,9 @@ ghost use Rattle.printed.specs.Room.{room_for};
 const JOURNAL_MOST: usize = 65536;
 
 // How many bytes are always enough for the transcript of a journal of so many bytes; 655,381 are for any.
+#[tactic(auto, unfolding(crate::specs::Room::room_for))]
 pub fn room_for(journal: usize) -> usize
     ensures { result ≡ room_for journal }
 {
-    if JOURNAL_MOST < journal {
-        return 21 + 10 * JOURNAL_MOST;
-    }
-    21 + 10 * journal
+    21 + 10 * journal.min(JOURNAL_MOST)
 }

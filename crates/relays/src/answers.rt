@@ -1,15 +1,16 @@
 // The answers of register and heartbeat: a refusal, which leaves all as it came, and success.
 ghost use Rattle.std.specs.Prelude.{◌≡◌, ◌<◌};
+ghost use Rattle.rules.specs.Numbers.{refusal_number};
 ghost use Rattle.rules.specs.Outcome.{refused, accepted};
 ghost use Rattle.rules.specs.Tables.{with_relays, with_last_relay};
 ghost use Rattle.relays.specs.Parts.{on_relays};
 ghost use Rattle.relays.specs.Rows.{on_row, kept_row};
 
 use super::{RelayChange, RelaysOutcome};
-use rules::{Relay, Tables};
+use rules::{Refusal, Relay, Tables};
 
-pub(crate) fn refuse(t: Tables, n: u32) -> RelaysOutcome
-    ensures { on_relays t result ≡ refused t n }
+pub(crate) fn refuse(t: Tables, n: Refusal) -> RelaysOutcome
+    ensures { on_relays t result ≡ refused t (refusal_number n) }
 {
     let answer = rules::refusal(n);
     let relays = t.relays;
@@ -33,8 +34,8 @@ pub(crate) fn accept(t: Tables, v: u64, relays: [Relay; 32], last: u32) -> Relay
 }
 
 // A refusal changes no row.
-pub(crate) fn keep_row(n: u32) -> RelayChange
-    ensures { result ≡ kept_row n }
+pub(crate) fn keep_row(n: Refusal) -> RelayChange
+    ensures { result ≡ kept_row (refusal_number n) }
 {
     let answer = rules::refusal(n);
     let row = rules::fresh_relay();

@@ -6,23 +6,22 @@ ghost use Rattle.relays.specs.Rows.{register_row};
 
 use super::answers::{change_on, keep_row};
 use super::{RelayChange, RelaysOutcome};
-use lists::Found;
-use rows::free_relay;
-use rules::numbers::{BAD, ROOM, SPENT};
-use rules::{Relay, RelayNo, Tables};
+use rows::free_row;
+use rules::{Refusal, Relay, RelayNo, Tables};
 
 // A relay of so many bytes joins, where these are the clock, the relay table, and the last relay number given.
+#[tactic(auto, unfolding(crate::specs::Rows::register_row, crate::specs::Rows::register_at))]
 pub fn register_row(clock: u64, rows: [Relay; 32], last: u32, capacity: u64) -> RelayChange
     ensures { result ≡ register_row clock rows last capacity }
 {
     if 4398046511104 < capacity {
-        return keep_row(BAD);
+        return keep_row(Refusal::Bad);
     }
     if 65535 <= last {
-        return keep_row(SPENT);
+        return keep_row(Refusal::Spent);
     }
-    let Found::At(i) = free_relay(rows) else {
-        return keep_row(ROOM);
+    let Some(i) = free_row(&rows) else {
+        return keep_row(Refusal::Room);
     };
     let no = last + 1;
     let row = Relay {

@@ -5,7 +5,10 @@ use mathlib.Core.List.{List, [], ◌∷◌}
 use Prim.Native.Nat.{ℕ, ◌+◌, ◌<◌, ◌≤◌, min}
 use native.Mathlib.Numerals.{add-one}
 use native.Mathlib.Omega.{arith}
-use borrow.Author.Rules.{rules}
+use lib.Dec.{eqb}
+use Rattle.std.proofs.Common.{⊎_elim, eqb-true}
+use Rattle.std.proofs.lemmas.Bool.{eqb-false}
+use Rattle.lists.specs.BoolLaws.{pass_or_fail}
 use lib.ListN.{length, drop, get_or, drop_of_length-le}
 use lib.Seq.{drop-cons}
 use Rattle.rules.specs.Tables.{numbered}
@@ -27,16 +30,23 @@ module _ (n : ℕ) (ms sizes : List ℕ) where
   raw_start = record { few = omega arith; rest = omega arith }
 
   module _ (i sum : ℕ) (h : RawLoop n ms sizes i sum) where
-    pub raw_end : length ms ≤ i → sum ≡ min (sizes_at n ms sizes) most_raw
+    raw_end : length ms ≤ i → sum ≡ min (sizes_at n ms sizes) most_raw
     unfolding sizes_at
     raw_end k =
         let z : sizes_at n (drop i ms) (drop i sizes) ≡ 0 = rw (drop_of_length-le ms {i = i} k) in
         omega (arith, h.rest, h.few)
 
-    pub raw_short : length sizes ≤ i → sum ≡ min (sizes_at n ms sizes) most_raw
+    raw_short : length sizes ≤ i → sum ≡ min (sizes_at n ms sizes) most_raw
     raw_short k =
         let z : sizes_at n (drop i ms) (drop i sizes) ≡ 0 = rw (drop_of_length-le sizes {i = i} k) (none_at n (drop i ms)) in
         omega (arith, h.rest, h.few)
+
+    pub raw_over : i ≡ min (length ms) (length sizes) → sum ≡ min (sizes_at n ms sizes) most_raw
+    raw_over e =
+        ⊎_elim
+        (λ w. raw_end (omega (arith, eqb-true i (length ms) w)))
+        (λ w. raw_short (omega (arith, eqb-false i (length ms) w)))
+        (pass_or_fail (eqb i (length ms)))
 
     -- b is what the code said of number i, and next the sum after it
     module _ (b : Bool) (next : ℕ) (k : i < length ms) (l : i < length sizes) (e : b ≡ numbered n (get_or ms i 0)) where
@@ -44,10 +54,8 @@ module _ (n : ℕ) (ms sizes : List ℕ) where
       unfolding sizes_at
       first = rw (add-one i, drop-cons ms i 0 k, drop-cons sizes i 0 l, e)
 
-      pub raw_adds : (got : ℕ) → b ≡ true → next ≡ got → got ≡ min (sum + get_or sizes i 0) most_raw → RawLoop n ms sizes (i + 1) next
-      raw_adds got t f g = record { few = omega arith; rest = omega (arith, h.rest, h.few, rw t at first) }
+      pub raw_adds : b ≡ true → next ≡ min (sum + get_or sizes i 0) most_raw → RawLoop n ms sizes (i + 1) next
+      raw_adds t f = record { few = omega arith; rest = omega (arith, h.rest, h.few, rw t at first) }
 
       pub raw_skips : b ≡ false → next ≡ sum → RawLoop n ms sizes (i + 1) next
       raw_skips t f = record { few = omega (arith, h.few); rest = omega (arith, h.rest, rw t at first) }
-
-pub ruleset raws = (raw_adds, raw_skips, raw_end, raw_short, raw_start, rules)

@@ -1,6 +1,6 @@
 -- Laws of rent_within, raw_in and volume_rent: within the limits they are the rent and the raw bytes of the rules, and sound tables are within them.
 -- Assumes nothing.
-use Rattle.std.specs.Prelude.{◌≡◌, refl, Bool, true, false, cond, ◌&&◌, List, [], ◌∷◌, map, ℕ, ◌+◌, ◌<◌, ◌≤◌, min, leb, length, get_or}
+use Rattle.std.specs.Prelude.{◌≡◌, refl, Bool, true, false, cond, ◌&&◌, List, [], ◌∷◌, map, ℕ, ◌+◌, ◌<◌, ◌≤◌, min, leb, length, get_or, Some, None}
 use Rattle.std.proofs.Common.{sym, ◌∙◌, arith, le-leb, leb-true}
 use Rattle.lists.specs.Lists.{keep, sum_of, total}
 use Rattle.lists.specs.TestLaws.{all_at}
@@ -18,7 +18,6 @@ use Rattle.rules.specs.Sound.{shards_fit, sound_volume, sound_entry, sound_table
 use Rattle.rules.proofs.Laws.NumberLaws.{numbered_used}
 use Rattle.rules.proofs.Laws.RowFacts.{volume_facts, entry_facts}
 use Rattle.rules.proofs.Laws.SoundParts.{parts_of}
-use Rattle.rents.specs.declared.Rent.TheVariants.{Coins, PastLimits}
 use Rattle.rents.specs.Within.{raw_limit, most_raw, rent_within, raw_in, entry_volume, sizes_at, volume_rent}
 
 -- the effective size of one object of so many bytes is that of objects which have them together
@@ -28,18 +27,18 @@ effective_total k m raw sizes e = let z : raw + 0 ≡ total sizes = omega (arith
 
 -- within the limits it is the rent of the rules
 pub rent_within_lem : (rate : ℕ) (v : Volume) (sizes : List ℕ) (raw : ℕ) → total sizes ≡ raw → shards_fit v.k v.m ≡ true → raw ≤ raw_limit
-    → rent_within rate v.k v.m raw ≡ Coins (rent_for rate v sizes)
+    → rent_within rate v.k v.m raw ≡ Some (rent_for rate v sizes)
 unfolding rent_within rent_for
 rent_within_lem rate v sizes raw e f h = rw (f, le-leb raw raw_limit h, effective_total v.k v.m raw sizes e)
 
 -- and where it is worked out, the limits are kept
-pub coins_within : (rate : ℕ) (v : Volume) (raw coins : ℕ) → rent_within rate v.k v.m raw ≡ Coins coins
+pub coins_within : (rate : ℕ) (v : Volume) (raw coins : ℕ) → rent_within rate v.k v.m raw ≡ Some coins
     → (shards_fit v.k v.m ≡ true) × (raw ≤ raw_limit)
 unfolding rent_within
 coins_within rate v raw coins e = go (shards_fit v.k v.m) (leb raw raw_limit) refl refl e
   where
     go : (a b : Bool) → shards_fit v.k v.m ≡ a → leb raw raw_limit ≡ b
-        → cond (a && b) (Coins (rent_of rate (effective v.k v.m (raw ∷ [])))) PastLimits ≡ Coins coins
+        → cond (a && b) (Some (rent_of rate (effective v.k v.m (raw ∷ [])))) None ≡ Some coins
         → (shards_fit v.k v.m ≡ true) × (raw ≤ raw_limit)
     go true true f g q = (f, leb-true raw raw_limit g)
     go true false f g q = absurd (let z : ◌≡◌ {A = ℕ} 0 1 = cc in omega arith)
@@ -82,7 +81,7 @@ raw_within n es d l f =
         go false e = omega arith
 
 -- a volume's rent that is worked out is the rent of the rules, whatever the tables
-pub rent_exact : (t : Tables) (v : Volume) (coins : ℕ) → volume_rent t v ≡ Coins coins → coins ≡ rent_now t v
+pub rent_exact : (t : Tables) (v : Volume) (coins : ℕ) → volume_rent t v ≡ Some coins → coins ≡ rent_now t v
 unfolding volume_rent rent_now
 rent_exact t v coins e =
     let raw = raw_in v.no t.entries in
@@ -92,7 +91,7 @@ rent_exact t v coins e =
 
 -- and on sound tables each volume's is worked out
 pub rent_sound : (t : Tables) (v : Volume) → length t.entries ≡ entry_rows → sound_tables t ≡ true → sound_volume t v ≡ true → used_volume v ≡ true
-    → volume_rent t v ≡ Coins (rent_now t v)
+    → volume_rent t v ≡ Some (rent_now t v)
 unfolding volume_rent rent_now
 rent_sound t v l s h u =
     let p = parts_of t s in

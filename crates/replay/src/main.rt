@@ -42,8 +42,8 @@ fn replay_by(
         Ok(n) => n,
         Err(error) => return eprintln!(rt; "{name}: {error}"),
     };
-    let written = transcripts::replay_into(&journal[..n], out);
-    let len = written.len;
+    // A buffer that were too short would get no transcript, and nothing would be printed.
+    let len = transcripts::replay_into(&journal[..n], out).unwrap_or(0);
     match rt.write_all(&out[..len]) {
         Ok(()) => Ok(()),
         Err(error) => eprintln!(rt; "standard output: {error}"),

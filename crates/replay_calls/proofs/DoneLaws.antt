@@ -1,11 +1,14 @@
 -- The calls of records on held tables are the rules of their calls: the arm names the call, and its fields are what the record and its bytes hold.
 -- j is the bytes of the journal. Assumes nothing.
+use Rattle.std.specs.Prelude.{Result, Ok, Err}
 use mathlib.Core.Path.{◌≡◌, refl, sym, ◌∙◌, ap}
 use mathlib.Core.Bool.{Bool, cond}
 use mathlib.Core.List.{List, map}
 use Prim.Native.Nat.{ℕ}
 use lib.ListN.{get_or, replicate, get_or-map}
 use Rattle.lists.specs.Lists.{hit, miss, find}
+use Rattle.rules.specs.Numbers.{refusal_number}
+use Rattle.rules.specs.declared.refusals.Refusal.{Refusal}
 use Rattle.rules.specs.declared.Account.{Account}
 use Rattle.rules.specs.declared.Hash.{Hash}
 use Rattle.rules.specs.declared.Relay.{Relay}
@@ -46,7 +49,7 @@ use Rattle.kept_removes.specs.declared.KeptRemove.{KeptRemove}
 use Rattle.kept_removes.specs.Parts.{on_kept_remove}
 use Rattle.kept_epochs.specs.declared.KeptCollect.{KeptCollect}
 use Rattle.kept_epochs.specs.Parts.{on_kept_collect}
-use Rattle.commits.specs.declared.Verdict.{Verdict}
+use Rattle.commits.specs.declared.Plan.{Plan}
 use Rattle.commits.specs.Stored.{StoredBy}
 use Rattle.commits.specs.Verdicts.{Judged}
 use Rattle.kept_commits.specs.declared.KeptCommit.{KeptCommit}
@@ -227,7 +230,7 @@ module _ (t : Tables) (h : Held) (relays : List Relay) (block : ℕ) where
 -- ---- a commit: s is the session of the record's slot, and x the verdict on it
 
 module _ (j : List ℕ) (t : Tables) (h : Held) (slots : List KeptSession) (relays : List Relay) (r : Record) (o : KeptCommit) (s : KeptSession)
-    (es : s ≡ get_or slots r.slot fresh_kept_session) (x : Verdict)
+    (es : s ≡ get_or slots r.slot fresh_kept_session) (x : Result Plan Refusal)
     (f : (u : Tables) → u.clock ≡ t.clock → u.rate ≡ t.rate → u.volumes ≡ t.volumes → u.entries ≡ entries_in j h.entries → u.tokens ≡ tokens_in j h.tokens
     → u.relays ≡ relays → Judged u (session_in j s) (commit_early u (session_in j s)) x) where
   its_slot : session_in j s ≡ slot_at j slots r
@@ -236,15 +239,15 @@ module _ (j : List ℕ) (t : Tables) (h : Held) (slots : List KeptSession) (rela
   verdict : Judged (held_tables j t h relays) (session_in j s) (commit_early (held_tables j t h relays) (session_in j s)) x
   verdict = f (held_tables j t h relays) refl refl refl refl refl refl
 
-  pub commit_refused : (x.number ≡ 0 → ⊥) → o ≡ kept_refusal t.volumes h.entries h.tokens relays s x.number → CommitDone j t h slots relays r o
-  commit_refused z e = record { told = rw (← its_slot, e) (sym (verdict.refused z)) }
+  pub commit_refused : (why : Refusal) → x ≡ Err why → o ≡ kept_refusal t.volumes h.entries h.tokens relays s (refusal_number why) → CommitDone j t h slots relays r o
+  commit_refused why z e = record { told = rw (← its_slot, e) (sym (verdict.refused why z)) }
 
-  pub commit_stored : x.number ≡ 0
+  pub commit_stored : (plan : Plan) → x ≡ Ok plan
       → ((u : Tables) → u.volumes ≡ t.volumes → u.entries ≡ entries_in j h.entries → u.tokens ≡ tokens_in j h.tokens → u.relays ≡ relays
-      → StoredBy u (session_in j s) x.plan (as_commit j o))
+      → StoredBy u (session_in j s) plan (as_commit j o))
       → CommitDone j t h slots relays r o
-  commit_stored z g =
-      record { told = rw (← its_slot) (verdict.stored z (as_commit j o) (g (held_tables j t h relays) refl refl refl refl)) }
+  commit_stored plan z g =
+      record { told = rw (← its_slot) ((verdict.passed plan z).stored (as_commit j o) (g (held_tables j t h relays) refl refl refl refl)) }
 
 -- ---- a fresh desk
 

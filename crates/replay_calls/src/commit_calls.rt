@@ -1,12 +1,13 @@
 // Commit.
 ghost use Rattle.std.specs.Prelude.{◌≡◌};
+ghost use Rattle.rules.specs.Numbers.{refusal_number};
 ghost use Rattle.replay_calls.specs.Held.{kept_refusal, CommitDone};
 
 use super::Held;
 use journal_calls::Item;
 use kept::{KeptEntry, KeptSession, KeptToken, kept_slot};
 use kept_commits::{KeptCommit, kept_verdict, store_kept_commit};
-use rules::{Relay, Tables, Volume};
+use rules::{Refusal, Relay, Tables, Volume};
 
 // A refusal: everything is as it came.
 fn refuse(
@@ -15,11 +16,11 @@ fn refuse(
     tokens: [KeptToken; 32],
     relays: [Relay; 32],
     session: KeptSession,
-    n: u32,
+    why: Refusal,
 ) -> KeptCommit
-    ensures { result ≡ kept_refusal volumes entries tokens relays session n }
+    ensures { result ≡ kept_refusal volumes entries tokens relays session (refusal_number why) }
 {
-    let answer = rules::refusal(n);
+    let answer = rules::refusal(why);
     KeptCommit {
         answer,
         volumes,
@@ -42,15 +43,10 @@ pub fn commit_call(
     ensures { CommitDone journal.now t h slots relays item.fields result }
 {
     let s = kept_slot(slots, item.fields.slot as usize);
-    let volumes = t.volumes;
-    let entries = h.entries;
-    let tokens = h.tokens;
-    let x = kept_verdict(
-        journal, t.clock, t.rate, volumes, entries, tokens, relays, s,
-    );
-    if x.number != 0 {
-        return refuse(volumes, entries, tokens, relays, s, x.number);
+    match kept_verdict(
+        journal, t.clock, t.rate, t.volumes, h.entries, h.tokens, relays, s,
+    ) {
+        Err(why) => refuse(t.volumes, h.entries, h.tokens, relays, s, why),
+        Ok(plan) => store_kept_commit(journal, t.volumes, h.entries, h.tokens, relays, s, plan),
     }
-    let plan = x.plan;
-    store_kept_commit(journal, volumes, entries, tokens, relays, s, plan)
 }

@@ -28,10 +28,10 @@ fn part(output: &mut impl Write, s: &[u8], from: usize, to: usize) -> io::Result
 
 // A name, and the transcript of a journal.
 fn show_in(output: &mut impl Write, name: &[u8], journal: &[u8], out: &mut [u8]) -> io::Result<()> {
-    let w = transcripts::replay_into(journal, out);
+    let len = transcripts::replay_into(journal, out).unwrap_or(0);
     word(output, name)?;
     word(output, b"\n")?;
-    part(output, out, 0, w.len)
+    part(output, out, 0, len)
 }
 
 fn show(output: &mut impl Write, name: &[u8], journal: &[u8]) -> io::Result<()> {
@@ -53,11 +53,14 @@ fn show_answer(
     if out.len() == 0 {
         return Ok(());
     }
-    let w = transcripts::replay_into(journal, out);
+    let (refused, len) = match transcripts::replay_into(journal, out) {
+        Ok(len) => (0, len),
+        Err(error) => (error.number(), 0),
+    };
     word(output, name)?;
-    number(output, w.number as u64)?;
+    number(output, u64::from(refused))?;
     word(output, b" ")?;
-    number(output, w.len as u64)?;
+    number(output, len as u64)?;
     word(output, b", first byte ")?;
     number(output, wide(out[0]))?;
     word(output, b"\n")
@@ -92,15 +95,15 @@ fn show_end(
     journal: &[u8],
     out: &mut [u8],
 ) -> io::Result<()> {
-    let w = transcripts::replay_into(journal, out);
+    let len = transcripts::replay_into(journal, out).unwrap_or(0);
     word(output, name)?;
     word(output, b": ")?;
-    number(output, w.len as u64)?;
+    number(output, len as u64)?;
     word(output, b" bytes, of which the last are\n")?;
-    if w.len < 14 {
-        return part(output, out, 0, w.len);
+    if len < 14 {
+        return part(output, out, 0, len);
     }
-    part(output, out, w.len - 14, w.len)
+    part(output, out, len - 14, len)
 }
 
 // The same of the first n bytes.

@@ -1,8 +1,8 @@
 -- What a read past a table's end gives: zeros, the first variant and no elements. No code reads there.
 use Rattle.std.specs.Prelude.{[]}
 use Rattle.amount.specs.declared.Cap.TheVariants.{Unlimited}
-use Rattle.text.specs.declared.Text.{Text}
-use Rattle.text.specs.declared.name.Name.{Name}
+use Rattle.text.specs.Text.{Text}
+use Rattle.text.specs.Text.{Name}
 use Rattle.rules.specs.declared.Volume.{Volume}
 use Rattle.rules.specs.declared.Entry.{Entry}
 use Rattle.rules.specs.declared.Token.{Token}

@@ -1,7 +1,6 @@
 -- The search for an entry that looks at a row's volume first: a row of another volume is not the entry, whatever its path. Assumes nothing.
-use Rattle.std.specs.Prelude.{◌≡◌, Bool, true, false, List, ℕ, ◌+◌, ◌<◌, eqb, get_or}
+use Rattle.std.specs.Prelude.{◌≡◌, Bool, true, false, List, ℕ, ◌+◌, ◌<◌, eqb, get_or, Some}
 use Rattle.std.proofs.Common.{sym, ne_eqb}
-use Rattle.lists.specs.declared.Found.TheVariants.{At}
 use Rattle.lists.specs.Lists.{first_at}
 use Rattle.lists.specs.Bytes.{same_bytes}
 use Rattle.lists.specs.AnswerLaws.{first_fails, part_fails}
@@ -23,7 +22,7 @@ module _ (n : VolumeNo) (path : List ℕ) where
   -- at row i: it is the entry, or of another volume, and the search goes on
   module _ (rows : List Entry) (i : ℕ) where
     pub entry_here : (b : Bool) → b ≡ true → b ≡ is_entry n path (get_or rows i blank_entry) → i < 64 → FindLoop (is_entry n path) rows 64 i
-        → At i ≡ first_at (is_entry n path) 0 rows
+        → Some i ≡ first_at (is_entry n path) 0 rows
     entry_here b t e k h = find_here blank_entry (is_entry n path) rows 64 i b h k e t
 
     pub entry_past : ((get_or rows i blank_entry).volume.0 ≡ n.0 → ⊥) → i < 64 → FindLoop (is_entry n path) rows 64 i → FindLoop (is_entry n path) rows 64 (i + 1)

@@ -1,11 +1,9 @@
 -- The chain in the lists of the numbers and of the parents is the chain in the table, and the loop that counts it. Assumes nothing.
-use Rattle.std.specs.Prelude.{◌≡◌, List, [], ◌∷◌, map, length, get_or}
+use Rattle.std.specs.Prelude.{◌≡◌, List, [], ◌∷◌, map, length, get_or, Option, Some, None}
 use Rattle.std.proofs.Math.Path.{refl}
 use Rattle.std.proofs.Common.{sym, ◌∙◌, arith}
 use Prim.Native.Nat.{ℕ, zero, suc, ◌+◌, ◌-◌, ◌<◌, ◌≤◌}
 use Rattle.std.proofs.lemmas.List.{length-map}
-use Rattle.lists.specs.declared.Found.{Found}
-use Rattle.lists.specs.declared.Found.TheVariants.{At, Nothing}
 use Rattle.lists.specs.Lists.{first_at}
 use Rattle.lists.specs.SearchLaws.{first_row_lem, first_miss, first_below}
 use Rattle.lists.specs.RowLaws.{map_row, first_map}
@@ -19,12 +17,12 @@ use Rattle.rows.specs.ChainLaws as up
 
 -- one step in the lists, by what the search for the number said
 module _ (ns ps : List ℕ) (n : ℕ) where
-  pub link_none : (m : ℕ) → first_at (numbered n) 0 ns ≡ Nothing → chain_in ns ps m n ≡ []
+  pub link_none : (m : ℕ) → first_at (numbered n) 0 ns ≡ None → chain_in ns ps m n ≡ []
   unfolding chain_in
   link_none zero e = refl
   link_none (suc m) e = rw e
 
-  pub link_step : (m i : ℕ) → first_at (numbered n) 0 ns ≡ At i → chain_in ns ps (suc m) n ≡ get_or ns i 0 ∷ chain_in ns ps m (get_or ps i 0)
+  pub link_step : (m i : ℕ) → first_at (numbered n) 0 ns ≡ Some i → chain_in ns ps (suc m) n ≡ get_or ns i 0 ∷ chain_in ns ps m (get_or ps i 0)
   unfolding chain_in
   link_step m i e = rw e
 
@@ -34,13 +32,13 @@ link_end ns ps n = refl
 
 -- the numbers of the chain in the table
 module _ (ts : List Token) where
-  linked_by : (m n : ℕ) (f : Found) → first_at (is_token (up.numbered n)) 0 ts ≡ f
+  linked_by : (m n : ℕ) (f : Option ℕ) → first_at (is_token (up.numbered n)) 0 ts ≡ f
       → ((p : ℕ) → chain_in (map token_number ts) (map token_parent ts) m p ≡ map token_number (up.upward ts m p))
       → chain_in (map token_number ts) (map token_parent ts) (suc m) n ≡ map token_number (up.upward ts (suc m) n)
-  linked_by m n Nothing e f =
+  linked_by m n None e f =
       rw (up.up_none ts (suc m) n (first_miss (is_token (up.numbered n)) ts e))
       (link_none (map token_number ts) (map token_parent ts) n (suc m) (first_map token_number ts (numbered n) (is_token (up.numbered n)) (λ x. refl) 0 ∙ e))
-  linked_by m n (At i) e f =
+  linked_by m n (Some i) e f =
       let w : i < length ts = omega (arith, first_below (is_token (up.numbered n)) ts 0 i e) in
       rw (up.up_step ts m n i (get_or ts i blank_token) (first_row_lem (is_token (up.numbered n)) ts i e blank_token))
       (link_step (map token_number ts) (map token_parent ts) n m i (first_map token_number ts (numbered n) (is_token (up.numbered n)) (λ x. refl) 0 ∙ e)
@@ -74,13 +72,13 @@ module _ (ns ps : List ℕ) (s : ℕ) where
         let r = rw (q, link_end ns ps p) at h.rest in
         omega (arith, r)
 
-    module _ (f : Found) (e : f ≡ first_at (numbered p) 0 ns) where
-      pub count_stop : f ≡ Nothing → n ≡ 1 + length (chain_in ns ps 8 s)
+    module _ (f : Option ℕ) (e : f ≡ first_at (numbered p) 0 ns) where
+      pub count_stop : f ≡ None → n ≡ 1 + length (chain_in ns ps 8 s)
       count_stop w =
           let r = rw (link_none ns ps p (9 - n) (sym e ∙ w)) at h.rest in
           omega (arith, r)
 
-      pub count_step : (i : ℕ) → n < 9 → f ≡ At i → CountLoop ns ps s (n + 1) (get_or ps i 0)
+      pub count_step : (i : ℕ) → n < 9 → f ≡ Some i → CountLoop ns ps s (n + 1) (get_or ps i 0)
       count_step i k w =
           let q : 9 - n ≡ suc (9 - (n + 1)) = omega arith in
           let r = rw (q, link_step ns ps p (9 - (n + 1)) i (sym e ∙ w)) at h.rest in

@@ -1,7 +1,5 @@
 -- The chain of a token in two lists, the numbers of the table's tokens and the numbers of their parents. Assumes nothing.
-use Rattle.std.specs.Prelude.{Bool, cond, List, [], ◌∷◌, ℕ, zero, suc, get_or}
-use Rattle.lists.specs.declared.Found.{Found}
-use Rattle.lists.specs.declared.Found.TheVariants.{At, Nothing}
+use Rattle.std.specs.Prelude.{Bool, cond, List, [], ◌∷◌, ℕ, zero, suc, get_or, Option, Some, None}
 use Rattle.lists.specs.Lists.{Hit, hit, miss, first_at}
 use Rattle.rules.specs.declared.Token.{Token}
 use Rattle.rules.specs.Tables.{numbered}
@@ -13,9 +11,9 @@ abbrev pub token_parent : Token → ℕ
 token_parent k = k.parent.0
 
 -- what follows the index that a search found, or nothing
-abbrev pub on_found : (ℕ → List ℕ) → Found → List ℕ
-on_found f (At i) = f i
-on_found f Nothing = []
+abbrev pub on_found : (ℕ → List ℕ) → Option ℕ → List ℕ
+on_found f (Some i) = f i
+on_found f None = []
 
 -- the number n and those of its ancestors, nearest first: at most m of them, as far as they are in the table
 unfoldable pub chain_in : List ℕ → List ℕ → ℕ → ℕ → List ℕ

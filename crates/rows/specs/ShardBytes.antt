@@ -1,8 +1,6 @@
 -- Laws of the bytes of an entry's shards. Assumes nothing.
-use Rattle.std.specs.Prelude.{◌≡◌, List, ℕ, get_or}
+use Rattle.std.specs.Prelude.{◌≡◌, List, ℕ, get_or, Option, Some, None}
 use Rattle.std.proofs.Common.{sym, ◌∙◌}
-use Rattle.lists.specs.declared.Found.{Found}
-use Rattle.lists.specs.declared.Found.TheVariants.{At, Nothing}
 use Rattle.lists.specs.Lists.{find, first_at, hit, miss}
 use Rattle.lists.specs.SearchLaws.{first_row_lem, first_miss}
 use Rattle.rules.specs.declared.Volume.{Volume}
@@ -22,9 +20,9 @@ unfolding shard_bytes
 shard_some vs e i v h = rw h
 
 -- as the code comes to them: f is what the search for the index of its volume said
-module _ (vs : List Volume) (e : Entry) (f : Found) (w : f ≡ first_at (is_volume e.volume) 0 vs) where
-  pub bytes_none : f ≡ Nothing → 0 ≡ shard_bytes vs e
+module _ (vs : List Volume) (e : Entry) (f : Option ℕ) (w : f ≡ first_at (is_volume e.volume) 0 vs) where
+  pub bytes_none : f ≡ None → 0 ≡ shard_bytes vs e
   bytes_none n = sym (shard_none vs e (first_miss (is_volume e.volume) vs (sym w ∙ n)))
 
-  pub bytes_at_lem : (r i : ℕ) → f ≡ At i → r ≡ shard_size e.size (get_or vs i blank_volume).k → r ≡ shard_bytes vs e
+  pub bytes_at_lem : (r i : ℕ) → f ≡ Some i → r ≡ shard_size e.size (get_or vs i blank_volume).k → r ≡ shard_bytes vs e
   bytes_at_lem r i h q = q ∙ sym (shard_some vs e i _ (first_row_lem (is_volume e.volume) vs i (sym w ∙ h) blank_volume))

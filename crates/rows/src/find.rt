@@ -1,95 +1,44 @@
 // Rows by their number, and free rows: the index of the first row that passes.
-ghost use Rattle.std.specs.Prelude.{◌≡◌};
-ghost use Rattle.lists.specs.Lists.{first_at};
-ghost use Rattle.rules.specs.Tables.{is_volume, is_token, is_relay, free_volume, free_token, free_relay, numbered};
+ghost use Rattle.std.specs.Prelude.{◌≡◌, ◌<◌, IfSome, length};
+ghost use Rattle.lists.specs.Lists.{any_of, first_at};
+ghost use Rattle.rules.specs.Tables.{numbered};
+ghost use Rattle.rules.specs.Sound.{is_given};
 
-use lists::Found;
-use rules::{Relay, RelayNo, Token, TokenNo, Volume, VolumeNo};
+use rules::Row;
 
-pub fn find_volume(rows: [Volume; 8], n: VolumeNo) -> Found
-    ensures { result ≡ first_at (is_volume n) 0 rows }
+// Where the row of the number n stands.
+pub fn find_row<R: Row>(rows: &[R], n: R::No) -> Option<usize>
+    ensures place { result ≡ first_at (R.is_row n) 0 rows.now }
+    ensures within { IfSome result (λ i. i < length rows.now) }
 {
-    let mut i: usize = 0;
-    while i < 8 {
-        if is_number(n.0, rows[i].no.0) {
-            return Found::At(i);
-        }
-        i += 1;
-    }
-    Found::Nothing
+    rows.iter().position(|row| row.has_number(n))
 }
 
-pub fn find_token(rows: [Token; 32], n: TokenNo) -> Found
-    ensures { result ≡ first_at (is_token n) 0 rows }
+// Where the first free row stands.
+pub fn free_row<R: Row>(rows: &[R]) -> Option<usize>
+    ensures place { result ≡ first_at R.is_free_row 0 rows.now }
+    ensures within { IfSome result (λ i. i < length rows.now) }
 {
-    let mut i: usize = 0;
-    while i < 32 {
-        if is_number(n.0, rows[i].no.0) {
-            return Found::At(i);
-        }
-        i += 1;
-    }
-    Found::Nothing
+    rows.iter().position(|row| row.is_free())
 }
 
-pub fn find_relay(rows: [Relay; 32], n: RelayNo) -> Found
-    ensures { result ≡ first_at (is_relay n) 0 rows }
+// Whether the number n is that of some row.
+pub fn any_row<R: Row>(rows: &[R], n: R::No) -> bool
+    ensures { result ≡ any_of (R.is_row n) rows.now }
 {
-    let mut i: usize = 0;
-    while i < 32 {
-        if is_number(n.0, rows[i].no.0) {
-            return Found::At(i);
-        }
-        i += 1;
-    }
-    Found::Nothing
-}
-
-pub fn free_volume(rows: [Volume; 8]) -> Found
-    ensures { result ≡ first_at free_volume 0 rows }
-{
-    let mut i: usize = 0;
-    while i < 8 {
-        if rows[i].no.0 == 0 {
-            return Found::At(i);
-        }
-        i += 1;
-    }
-    Found::Nothing
-}
-
-pub fn free_token(rows: [Token; 32]) -> Found
-    ensures { result ≡ first_at free_token 0 rows }
-{
-    let mut i: usize = 0;
-    while i < 32 {
-        if rows[i].no.0 == 0 {
-            return Found::At(i);
-        }
-        i += 1;
-    }
-    Found::Nothing
-}
-
-pub fn free_relay(rows: [Relay; 32]) -> Found
-    ensures { result ≡ first_at free_relay 0 rows }
-{
-    let mut i: usize = 0;
-    while i < 32 {
-        if rows[i].no.0 == 0 {
-            return Found::At(i);
-        }
-        i += 1;
-    }
-    Found::Nothing
+    rows.iter().any(|row| row.has_number(n))
 }
 
 // A row's number is n, and n is a number.
 pub fn is_number(n: u32, row: u32) -> bool
     ensures { result ≡ numbered n row }
 {
-    if n == 0 {
-        return false;
-    }
-    row == n
+    n != 0 && row == n
+}
+
+// Whether n was given, where numbers are given from 1 up to the last one.
+pub fn is_given(last: u32, n: u32) -> bool
+    ensures { result ≡ is_given last n }
+{
+    1 <= n && n <= last
 }

@@ -2,7 +2,6 @@
 // share. Every function here answers for every input.
 #![tactic(auto)]
 
-mod any;
 mod chain;
 mod find;
 mod path_keys;
@@ -12,13 +11,8 @@ mod shards;
 mod sums;
 mod texts;
 
-pub use any::{any_relay, is_given};
-pub use chain::{
-    depth_in, depth_of, find_number, is_wide_number, token_numbers, token_parents, wide,
-};
-pub use find::{
-    find_relay, find_token, find_volume, free_relay, free_token, free_volume, is_number,
-};
+pub use chain::{depth_in, depth_of, find_number, token_numbers, token_parents};
+pub use find::{any_row, find_row, free_row, is_given, is_number};
 pub use path_keys::{bytes_key, path_key};
 pub use scope::{can_read, can_write, cap_fits, in_window, is_active, is_open, shards_fit};
 pub use sets::in_set;

@@ -3,13 +3,13 @@ ghost use Rattle.std.specs.Prelude.{◌≡◌, ◌-◌, take};
 ghost use Rattle.text.specs.Text.{text_bytes};
 ghost use Rattle.rows.specs.PathKeys.{key_of};
 
-use text::{PATH_LIMIT, Text, byte_count};
+use text::{PATH_LIMIT, Text};
 
 // Where the last 13 of so many bytes start.
 fn key_start(count: usize) -> usize
     ensures { result ≡ count - 13 }
 {
-    if 13 < count { count - 13 } else { 0 }
+    count.saturating_sub(13)
 }
 
 // A number for the path that the first `len` bytes are, from the volume's number and the path's last 13 bytes, which equal paths
@@ -17,7 +17,7 @@ fn key_start(count: usize) -> usize
 pub fn bytes_key(n: u32, bytes: [u8; PATH_LIMIT], len: usize) -> u64
     ensures { result ≡ key_of n (take len bytes) }
 {
-    let count = byte_count(len);
+    let count = len.min(PATH_LIMIT);
     let mut key: u64 = 0;
     let mut i = key_start(count);
     while i < count {

@@ -8,33 +8,22 @@ use amount::Cap;
 use rules::{Mode, Scope, Status};
 
 // Whether the clock lies in the window, both of its ends included.
-pub fn in_window(clock: u64, s: Scope) -> bool
-    ensures { result ≡ in_window clock s }
+pub fn in_window(clock: u64, s: &Scope) -> bool
+    ensures { result ≡ in_window clock s.now }
 {
-    if clock < s.from {
-        return false;
-    }
-    clock <= s.until
+    s.from <= clock && clock <= s.until
 }
 
 pub fn can_read(m: Mode) -> bool
     ensures { result ≡ can_read m }
 {
-    match m {
-        Mode::Read => true,
-        Mode::Write => false,
-        Mode::Both => true,
-    }
+    matches!(m, Mode::Read | Mode::Both)
 }
 
 pub fn can_write(m: Mode) -> bool
     ensures { result ≡ can_write m }
 {
-    match m {
-        Mode::Read => false,
-        Mode::Write => true,
-        Mode::Both => true,
-    }
+    matches!(m, Mode::Write | Mode::Both)
 }
 
 // Whether a cap is no limit or a count up to 2^36.
@@ -50,36 +39,19 @@ pub fn cap_fits(c: Cap) -> bool
 pub fn is_active(s: Status) -> bool
     ensures { result ≡ is_active s }
 {
-    match s {
-        Status::Active => true,
-        Status::Grace => false,
-        Status::Deleted => false,
-    }
+    matches!(s, Status::Active)
 }
 
 // Whether the volume is ACTIVE or in its grace period.
 pub fn is_open(s: Status) -> bool
     ensures { result ≡ is_open s }
 {
-    match s {
-        Status::Active => true,
-        Status::Grace => true,
-        Status::Deleted => false,
-    }
+    matches!(s, Status::Active | Status::Grace)
 }
 
 // K from 2 to 16, M from 1 to 8.
 pub fn shards_fit(k: u8, m: u8) -> bool
     ensures { result ≡ shards_fit k m }
 {
-    if k < 2 {
-        return false;
-    }
-    if 16 < k {
-        return false;
-    }
-    if m < 1 {
-        return false;
-    }
-    m <= 8
+    (2..=16).contains(&k) && (1..=8).contains(&m)
 }

@@ -5,8 +5,5 @@ ghost use Rattle.std.specs.Prelude.{◌≡◌, ◌+◌, ltb};
 pub fn passes(limit: u64, a: u64, b: u64) -> bool
     ensures { result ≡ ltb limit (a + b) }
 {
-    if limit < b {
-        return true;
-    }
-    limit - b < a
+    limit < b || limit - b < a
 }

@@ -1,100 +1,66 @@
 // Rows by their texts and owners: entries and staged puts by path, volumes by owner and name.
-ghost use Rattle.std.specs.Prelude.{◌≡◌, min, take};
+ghost use Rattle.std.specs.Prelude.{◌≡◌, ◌<◌, IfSome, length, min, take};
 ghost use Rattle.lists.specs.Lists.{first_at, any_of};
 ghost use Rattle.rules.specs.Tables.{is_entry, is_put, owned_by};
 ghost use Rattle.rules.specs.VolumeCalls.{has_name};
 
 use super::find::is_number;
-use lists::{Found, same_bytes};
 use rules::{Account, Entry, Put, Volume, VolumeNo};
-use text::name::same_name;
-use text::same_text;
 
 // Whether the entry is this volume's at this path.
-pub fn is_entry(e: Entry, n: VolumeNo, path: &[u8]) -> bool
-    ensures { result ≡ is_entry n path.now e }
+#[tactic(auto, unfolding(rules::specs::Tables::is_entry))]
+pub fn is_entry(e: &Entry, n: VolumeNo, path: &[u8]) -> bool
+    ensures { result ≡ is_entry n path.now e.now }
 {
-    if !is_number(n.0, e.volume.0) {
-        return false;
-    }
-    let p = e.path;
-    same_text(p, path)
+    is_number(n.0, e.volume.0) && e.path.as_bytes() == path
 }
 
-// A row of another volume is not copied.
-pub fn find_entry(rows: [Entry; 64], n: VolumeNo, path: &[u8]) -> Found
-    ensures { result ≡ first_at (is_entry n path.now) 0 rows }
+pub fn find_entry(rows: &[Entry], n: VolumeNo, path: &[u8]) -> Option<usize>
+    ensures place { result ≡ first_at (is_entry n path.now) 0 rows.now }
+    ensures within { IfSome result (λ i. i < length rows.now) }
 {
-    let mut i: usize = 0;
-    while i < 64 {
-        if rows[i].volume.0 == n.0 {
-            let e = rows[i];
-            if is_entry(e, n, path) {
-                return Found::At(i);
-            }
-        }
-        i += 1;
-    }
-    Found::Nothing
+    rows.iter().position(|e| is_entry(e, n, path))
 }
 
 // How many of a session's 8 put places are in use.
 pub fn put_count(count: usize) -> usize
     ensures { result ≡ min count 8 }
 {
-    if count < 8 { count } else { 8 }
+    count.min(8)
+}
+
+#[tactic(auto, unfolding(rules::specs::Tables::is_put))]
+fn is_put(p: &Put, path: &[u8]) -> bool
+    ensures { result ≡ is_put path.now p.now }
+{
+    p.path.as_bytes() == path
 }
 
 // Among the first `count` puts.
-pub fn find_put(rows: [Put; 8], count: usize, path: &[u8]) -> Found
-    ensures { result ≡ first_at (is_put path.now) 0 (take count rows) }
+pub fn find_put(rows: &[Put], count: usize, path: &[u8]) -> Option<usize>
+    ensures place { result ≡ first_at (is_put path.now) 0 (take count rows.now) }
+    ensures within { IfSome result (λ i. i < length rows.now) }
 {
-    let n = put_count(count);
-    let mut i: usize = 0;
-    while i < n {
-        let p = rows[i];
-        let q = p.path;
-        if same_text(q, path) {
-            return Found::At(i);
-        }
-        i += 1;
-    }
-    Found::Nothing
+    rows.iter().take(count).position(|p| is_put(p, path))
 }
 
-pub fn owned_by(v: Volume, a: Account) -> bool
-    ensures { result ≡ owned_by a v }
+#[tactic(auto, unfolding(rules::specs::Tables::owned_by))]
+pub fn owned_by(v: &Volume, a: Account) -> bool
+    ensures { result ≡ owned_by a v.now }
 {
-    let o = v.owner;
-    let x = o.0;
-    let y = a.0;
-    same_bytes(&x, &y)
+    v.owner.0 == a.0
 }
 
 // Whether the volume is this owner's and has this name.
-pub fn has_name(v: Volume, a: Account, name: &[u8]) -> bool
-    ensures { result ≡ has_name a name.now v }
+#[tactic(auto, unfolding(rules::specs::VolumeCalls::has_name))]
+pub fn has_name(v: &Volume, a: Account, name: &[u8]) -> bool
+    ensures { result ≡ has_name a name.now v.now }
 {
-    if v.no.0 == 0 {
-        return false;
-    }
-    if !owned_by(v, a) {
-        return false;
-    }
-    let n = v.name;
-    same_name(n, name)
+    v.no.0 != 0 && owned_by(v, a) && v.name.as_bytes() == name
 }
 
-pub fn name_taken(rows: [Volume; 8], a: Account, name: &[u8]) -> bool
-    ensures { result ≡ any_of (has_name a name.now) rows }
+pub fn name_taken(rows: &[Volume], a: Account, name: &[u8]) -> bool
+    ensures { result ≡ any_of (has_name a name.now) rows.now }
 {
-    let mut i: usize = 0;
-    while i < 8 {
-        let v = rows[i];
-        if has_name(v, a, name) {
-            return true;
-        }
-        i += 1;
-    }
-    false
+    rows.iter().any(|v| has_name(v, a, name))
 }

@@ -1,8 +1,8 @@
 -- Document 01: "A fresh desk is empty, clock 0"; "a freed row or slot is as on a fresh desk". Number 0 marks a free row. Assumes nothing.
 use Rattle.std.specs.Prelude.{ℕ, replicate}
 use Rattle.amount.specs.declared.Cap.TheVariants.{Bytes}
-use Rattle.text.specs.declared.Text.{Text}
-use Rattle.text.specs.declared.name.Name.{Name}
+use Rattle.text.specs.Text.{Text}
+use Rattle.text.specs.Text.{Name}
 use Rattle.text.specs.Text.{path_limit, name_limit}
 use Rattle.rules.specs.declared.VolumeNo.{VolumeNo}
 use Rattle.rules.specs.declared.TokenNo.{TokenNo}

@@ -1,6 +1,8 @@
 -- Document 01, "Refusal numbers": the numbers that the calls give, each under the name that the table gives it. Those of typed amounts and of
 -- the journal stand with their readers. Assumes nothing.
-use Rattle.std.specs.Prelude.{ℕ}
+use Rattle.std.specs.Prelude.{ℕ, Result, Ok, Err}
+use Rattle.rules.specs.declared.refusals.Refusal.{Refusal}
+use Rattle.rules.specs.declared.refusals.Refusal.TheVariants as refusal
 
 -- 1: "a field breaks a rule above, from > until, slot > 3"
 abbrev pub BAD : ℕ
@@ -93,3 +95,34 @@ NAME_TAKEN = 25
 -- 26: "unknown, or health 0"
 abbrev pub NO_RELAY : ℕ
 NO_RELAY = 26
+
+-- the number of each
+abbrev pub refusal_number : Refusal → ℕ
+refusal_number refusal.Bad = BAD
+refusal_number refusal.NoVolume = NO_VOLUME
+refusal_number refusal.NotOwner = NOT_OWNER
+refusal_number refusal.NoToken = NO_TOKEN
+refusal_number refusal.Window = WINDOW
+refusal_number refusal.Mode = MODE
+refusal_number refusal.Prefix = PREFIX
+refusal_number refusal.State = STATE
+refusal_number refusal.Conflict = CONFLICT
+refusal_number refusal.Quota = QUOTA
+refusal_number refusal.Size = SIZE
+refusal_number refusal.Room = ROOM
+refusal_number refusal.Rent = RENT
+refusal_number refusal.NoPlace = NO_PLACE
+refusal_number refusal.NoEntry = NO_ENTRY
+refusal_number refusal.Clock = CLOCK
+refusal_number refusal.Widens = WIDENS
+refusal_number refusal.Deep = DEEP
+refusal_number refusal.Session = SESSION
+refusal_number refusal.TooMuch = TOO_MUCH
+refusal_number refusal.Spent = SPENT
+refusal_number refusal.NameTaken = NAME_TAKEN
+refusal_number refusal.NoRelay = NO_RELAY
+
+-- "Answer 0 is success .. A refusal gives its number": the number of what was done, or of why it was not
+abbrev pub answer_number : {A : Type 0} → Result A Refusal → ℕ
+answer_number (Ok x) = 0
+answer_number (Err why) = refusal_number why

@@ -1,20 +1,27 @@
 // Answers: a refusal with its number, or success with its value.
 ghost use Rattle.std.specs.Prelude.{◌≡◌};
+ghost use Rattle.rules.specs.Numbers.{refusal_number};
 ghost use Rattle.rules.specs.Outcome.{refusal, success, success_with};
 
 use super::fresh_rows::fresh_hash;
-use super::{Answer, Hash};
+use super::{Answer, Hash, Refusal};
 
-// A refusal: its number and value 0.
-pub fn refusal(n: u32) -> Answer
+// The refusal of a number: value 0.
+pub fn numbered_refusal(n: u32) -> Answer
     ensures { result ≡ Rattle.rules.specs.Outcome.refusal n }
 {
-    let hash = fresh_hash();
     Answer {
         number: n,
         value: 0,
-        hash,
+        hash: fresh_hash(),
     }
+}
+
+// A refusal: its number and value 0.
+pub fn refusal(why: Refusal) -> Answer
+    ensures { result ≡ Rattle.rules.specs.Outcome.refusal (refusal_number why) }
+{
+    numbered_refusal(why.number())
 }
 
 // Success: 0 and the value.

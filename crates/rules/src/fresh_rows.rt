@@ -8,26 +8,8 @@ use super::{
     Tables, Token, TokenNo, Volume, VolumeNo,
 };
 use amount::Cap;
+use text::Text;
 use text::name::Name;
-use text::{NAME_LIMIT, PATH_LIMIT, Text};
-
-fn empty_text() -> Text
-    ensures { result ≡ Rattle.rules.specs.Fresh.fresh_text }
-{
-    Text {
-        bytes: [0u8; PATH_LIMIT],
-        len: 0,
-    }
-}
-
-fn empty_name() -> Name
-    ensures { result ≡ Rattle.rules.specs.Fresh.fresh_name }
-{
-    Name {
-        bytes: [0u8; NAME_LIMIT],
-        len: 0,
-    }
-}
 
 pub fn fresh_hash() -> Hash
     ensures { result ≡ fresh_hash }
@@ -47,28 +29,22 @@ pub fn fresh_placement() -> Placement
 pub fn fresh_entry() -> Entry
     ensures { result ≡ fresh_entry }
 {
-    let path = empty_text();
-    let hash = fresh_hash();
-    let placement = fresh_placement();
     Entry {
         volume: VolumeNo(0),
-        path,
+        path: Text::empty(),
         size: 0,
-        hash,
-        placement,
+        hash: fresh_hash(),
+        placement: fresh_placement(),
     }
 }
 
 pub fn fresh_volume() -> Volume
     ensures { result ≡ fresh_volume }
 {
-    let bytes = [0u8; 32];
-    let owner = Account(bytes);
-    let name = empty_name();
     Volume {
         no: VolumeNo(0),
-        owner,
-        name,
+        owner: Account([0; 32]),
+        name: Name::empty(),
         k: 0,
         m: 0,
         cap: Cap::Bytes(0),
@@ -83,9 +59,8 @@ pub fn fresh_volume() -> Volume
 pub fn fresh_token() -> Token
     ensures { result ≡ fresh_token }
 {
-    let prefix = empty_text();
     let scope = Scope {
-        prefix,
+        prefix: Text::empty(),
         mode: Mode::Read,
         cap: Cap::Bytes(0),
         from: 0,
@@ -115,12 +90,10 @@ pub fn fresh_relay() -> Relay
 pub fn fresh_put() -> Put
     ensures { result ≡ fresh_put }
 {
-    let path = empty_text();
-    let hash = fresh_hash();
     Put {
-        path,
+        path: Text::empty(),
         size: 0,
-        hash,
+        hash: fresh_hash(),
     }
 }
 

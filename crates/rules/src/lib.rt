@@ -7,13 +7,17 @@
 mod answers;
 mod fresh_rows;
 pub mod numbers;
+mod refusals;
+mod row;
 
 use amount::Cap;
-pub use answers::{refusal, success, success_with};
+pub use answers::{numbered_refusal, refusal, success, success_with};
 pub use fresh_rows::{
     fresh, fresh_entry, fresh_hash, fresh_placement, fresh_put, fresh_relay, fresh_session,
     fresh_tables, fresh_token, fresh_volume,
 };
+pub use refusals::Refusal;
+pub use row::Row;
 use text::Text;
 use text::name::Name;
 

@@ -62,11 +62,12 @@ fn cap_within(child: Cap, parent: Cap) -> bool
 }
 
 // A child's prefix begins with its parent's, and its mode, cap and window lie within the parent's.
+#[tactic(auto, unfolding(rules::specs::Scope::narrows))]
 pub fn narrows(prefix: &[u8], mode: Mode, cap: Cap, from: u64, until: u64, parent: Scope) -> bool
     ensures { result ≡ narrows (scope_arg prefix.now mode cap from until) parent }
 {
     let above = parent.prefix;
-    if !text::covers(above, prefix) {
+    if !above.covers(prefix) {
         return false;
     }
     let parent_mode = parent.mode;

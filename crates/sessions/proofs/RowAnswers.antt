@@ -1,5 +1,6 @@
 -- What each rule on a session answers: `X-none` where there is no row, `X-at` at the row that there is. What a function said of all tables holds of
 -- these; and the answers that hold what another function of the code made. Assumes nothing.
+use Rattle.std.specs.Prelude.{Option, Some, None}
 use mathlib.Core.List.{List}
 use mathlib.Core.Bool.{Bool, true, false, not}
 use mathlib.Core.Path.{◌≡◌, refl, sym, ◌∙◌}
@@ -7,8 +8,6 @@ use Prim.Native.Nat.{ℕ}
 use borrow.Author.Tests.{not-true, not-false}
 use lib.ListN.{get_or, take}
 use lib.Seq.{take_all}
-use Rattle.lists.specs.declared.Found.{Found}
-use Rattle.lists.specs.declared.Found.TheVariants.{At, Nothing}
 use Rattle.lists.specs.Lists.{Hit, hit, miss, first_at}
 use Rattle.lists.specs.AnswerLaws.{NoRow, AtRow, no_row, at_row}
 use Rattle.lists.specs.SearchLaws.{first_row_lem, first_miss}
@@ -66,39 +65,39 @@ module _ (t : Tables) (r : SessionOutcome) where
       stage_at_lem w f = f t ∙ sym (rw (not-false there w))
 
   -- the token's row, which the code searched for: f is what the search said
-  module _ (n : TokenNo) (f : Found) (e : f ≡ first_at (is_token n) 0 t.tokens) where
-    unfound : f ≡ Nothing → token_of n t ≡ miss
+  module _ (n : TokenNo) (f : Option ℕ) (e : f ≡ first_at (is_token n) 0 t.tokens) where
+    unfound : f ≡ None → token_of n t ≡ miss
     unfolding token_of
     unfound w = first_miss (is_token n) t.tokens (sym e ∙ w)
 
-    found : (i : ℕ) → f ≡ At i → token_of n t ≡ hit i (get_or t.tokens i blank_token)
+    found : (i : ℕ) → f ≡ Some i → token_of n t ≡ hit i (get_or t.tokens i blank_token)
     unfolding token_of
     found i w = first_row_lem (is_token n) t.tokens i (sym e ∙ w) blank_token
 
-    pub opens_none : (s : Session) → f ≡ Nothing
+    pub opens_none : (s : Session) → f ≡ None
         → ((u : Tables) → u.clock ≡ t.clock → u.volumes ≡ t.volumes → on_session u r ≡ open_found u s miss) → on_session t r ≡ open_rule n t s
     opens_none s w g = g t refl refl ∙ open_by_row t s n false 0 blank_token (unfound w)
 
-    pub opens_at : (s : Session) (i : ℕ) → f ≡ At i
+    pub opens_at : (s : Session) (i : ℕ) → f ≡ Some i
         → ((u : Tables) → u.clock ≡ t.clock → u.volumes ≡ t.volumes → on_session u r ≡ open_found u s (hit 0 (get_or t.tokens i blank_token)))
         → on_session t r ≡ open_rule n t s
     opens_at s i w g = g t refl refl ∙ open_by_row t s n true i (get_or t.tokens i blank_token) (found i w)
 
-  module _ (s : Session) (f : Found) (e : f ≡ first_at (is_token s.token) 0 t.tokens) (path : List ℕ) (size : ℕ) (h : Hash) where
-    pub stages_none : f ≡ Nothing → ((u : Tables) → on_session u r ≡ stage_found path size h u s miss) → on_session t r ≡ stage_rule path size h t s
+  module _ (s : Session) (f : Option ℕ) (e : f ≡ first_at (is_token s.token) 0 t.tokens) (path : List ℕ) (size : ℕ) (h : Hash) where
+    pub stages_none : f ≡ None → ((u : Tables) → on_session u r ≡ stage_found path size h u s miss) → on_session t r ≡ stage_rule path size h t s
     stages_none w g = g t ∙ stage_by_row t s path size h false 0 blank_token (unfound s.token f e w)
 
-    pub stages_at : (i : ℕ) → f ≡ At i → ((u : Tables) → on_session u r ≡ stage_found path size h u s (hit 0 (get_or t.tokens i blank_token)))
+    pub stages_at : (i : ℕ) → f ≡ Some i → ((u : Tables) → on_session u r ≡ stage_found path size h u s (hit 0 (get_or t.tokens i blank_token)))
         → on_session t r ≡ stage_rule path size h t s
     stages_at i w g = g t ∙ stage_by_row t s path size h true i (get_or t.tokens i blank_token) (found s.token f e i w)
 
   -- the volume's row, in the volumes that the code was handed
-  module _ (s : Session) (k : TokenNo) (n : VolumeNo) (volumes : List Volume) (e : t.volumes ≡ volumes) (f : Found) (g : f ≡ first_at (is_volume n) 0 volumes) where
-    pub volume_none : f ≡ Nothing → ((u : Tables) → on_session u r ≡ slot_refused u s STATE) → on_session t r ≡ open_volume t s k (volume_of n t)
+  module _ (s : Session) (k : TokenNo) (n : VolumeNo) (volumes : List Volume) (e : t.volumes ≡ volumes) (f : Option ℕ) (g : f ≡ first_at (is_volume n) 0 volumes) where
+    pub volume_none : f ≡ None → ((u : Tables) → on_session u r ≡ slot_refused u s STATE) → on_session t r ≡ open_volume t s k (volume_of n t)
     unfolding open_volume volume_of
     volume_none w q = no_row (open_volume t s k) (is_volume n) t.volumes f (on_session t r) (rw e g) w (q t)
 
-    pub volume_at : (i : ℕ) → f ≡ At i → ((u : Tables) → on_session u r ≡ open_volume u s k (hit 0 (get_or volumes i blank_volume)))
+    pub volume_at : (i : ℕ) → f ≡ Some i → ((u : Tables) → on_session u r ≡ open_volume u s k (hit 0 (get_or volumes i blank_volume)))
         → on_session t r ≡ open_volume t s k (volume_of n t)
     unfolding open_volume volume_of
     volume_at i w q = at_row (open_volume t s k) (is_volume n) t.volumes blank_volume f (on_session t r) i (rw e g) w (rw (← e) at (q t))

@@ -6,15 +6,14 @@ ghost use Rattle.sessions.specs.Parts.{on_session};
 
 use super::SessionOutcome;
 use super::answers::{accept, refuse};
-use rules::numbers::SESSION;
-use rules::{Session, Tables};
+use rules::{Refusal, Session, Tables};
 
 // A session ends with nothing stored, whatever the tables are.
 pub(crate) fn abandon_row(s: Session) -> SessionOutcome
     ensures { (t : Tables) → on_session t result ≡ abandon_rule t s }
 {
     if s.token.0 == 0 {
-        return refuse(s, SESSION);
+        return refuse(s, Refusal::Session);
     }
     let idle = rules::fresh_session();
     accept(idle)

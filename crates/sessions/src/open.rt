@@ -9,10 +9,8 @@ ghost use Rattle.sessions.specs.Rows.{open_found};
 
 use super::SessionOutcome;
 use super::answers::{accept, refuse};
-use lists::Found;
-use rows::{can_write, find_token, find_volume, in_window, is_active};
-use rules::numbers::{MODE, NO_TOKEN, SESSION, STATE, WINDOW};
-use rules::{Session, Tables, Token, TokenNo, Volume, VolumeNo};
+use rows::{can_write, find_row, in_window, is_active};
+use rules::{Refusal, Session, Tables, Token, TokenNo, Volume, VolumeNo};
 
 // A session with nothing staged.
 fn new_session(n: TokenNo, v: VolumeNo, version: u32) -> Session
@@ -34,7 +32,7 @@ fn open_volume(s: Session, n: TokenNo, v: Volume) -> SessionOutcome
 {
     let status = v.status;
     if !is_active(status) {
-        return refuse(s, STATE);
+        return refuse(s, Refusal::State);
     }
     let no = v.no;
     accept(new_session(n, no, v.version))
@@ -44,21 +42,16 @@ fn open_volume(s: Session, n: TokenNo, v: Volume) -> SessionOutcome
 fn open_token(clock: u64, volumes: [Volume; 8], s: Session, k: Token) -> SessionOutcome
     ensures { (t : Tables) → t.clock ≡ clock → t.volumes ≡ volumes → on_session t result ≡ open_token t s (hit 0 k) }
 {
-    let scope = k.scope;
-    let mode = scope.mode;
-    let no = k.no;
-    let volume = k.volume;
-    if !in_window(clock, scope) {
-        return refuse(s, WINDOW);
+    if !in_window(clock, &k.scope) {
+        return refuse(s, Refusal::Window);
     }
-    if !can_write(mode) {
-        return refuse(s, MODE);
+    if !can_write(k.scope.mode) {
+        return refuse(s, Refusal::Mode);
     }
-    let Found::At(i) = find_volume(volumes, volume) else {
-        return refuse(s, STATE);
+    let Some(i) = find_row(&volumes, k.volume) else {
+        return refuse(s, Refusal::State);
     };
-    let v = volumes[i];
-    open_volume(s, no, v)
+    open_volume(s, k.no, volumes[i])
 }
 
 // A session begins in an idle slot, where these are the clock and the volumes, and `k` is the token's row, if it is there.
@@ -72,10 +65,10 @@ pub(crate) fn open_row(
     ensures { (t : Tables) → t.clock ≡ clock → t.volumes ≡ volumes → on_session t result ≡ open_found t s (row_if there k) }
 {
     if s.token.0 != 0 {
-        return refuse(s, SESSION);
+        return refuse(s, Refusal::Session);
     }
     if !there {
-        return refuse(s, NO_TOKEN);
+        return refuse(s, Refusal::NoToken);
     }
     open_token(clock, volumes, s, k)
 }
@@ -86,7 +79,7 @@ pub fn open_on(t: Tables, s: Session, n: TokenNo) -> SessionOutcome
 {
     let volumes = t.volumes;
     let rows = t.tokens;
-    let Found::At(i) = find_token(rows, n) else {
+    let Some(i) = find_row(&rows, n) else {
         let none = rules::fresh_token();
         return open_row(t.clock, volumes, s, false, none);
     };

@@ -12,18 +12,16 @@ ghost use Rattle.sessions.specs.Rows.{stage_found};
 
 use super::SessionOutcome;
 use super::answers::{accept, refuse};
-use lists::Found;
-use rows::{find_put, find_token};
-use rules::numbers::{BAD, NO_TOKEN, PREFIX, ROOM, SESSION};
-use rules::{Hash, Put, Session, Tables, Token};
+use rows::{find_put, find_row};
+use rules::{Hash, Put, Refusal, Session, Tables, Token};
+use text::Text;
 use text::path::is_path;
 
 fn make_put(path: &[u8], size: u64, hash: Hash) -> Put
     ensures { result ≡ new_put (take path_limit path.now) size hash }
 {
-    let text = text::to_text(path);
     Put {
-        path: text,
+        path: Text::truncated(path),
         size,
         hash,
     }
@@ -57,9 +55,9 @@ fn stage_put(s: Session, p: Put, path: &[u8]) -> SessionOutcome
 {
     let puts = s.puts;
     let count = s.count;
-    let Found::At(j) = find_put(puts, count, path) else {
+    let Some(j) = find_put(&puts, count, path) else {
         if 8 <= count {
-            return refuse(s, ROOM);
+            return refuse(s, Refusal::Room);
         }
         return accept(put_next(s, p));
     };
@@ -73,8 +71,8 @@ fn stage_token(s: Session, k: Token, path: &[u8], size: u64, hash: Hash) -> Sess
 {
     let scope = k.scope;
     let prefix = scope.prefix;
-    if !text::covers(prefix, path) {
-        return refuse(s, PREFIX);
+    if !prefix.covers(path) {
+        return refuse(s, Refusal::Prefix);
     }
     let p = make_put(path, size, hash);
     stage_put(s, p, path)
@@ -91,6 +89,7 @@ fn stage_fits(path: &[u8], size: u64) -> bool
 }
 
 // A session stages an object, where `k` is the row of the session's token, if it is there.
+#[tactic(auto, unfolding(crate::specs::Rows::stage_found))]
 pub(crate) fn stage_row(
     s: Session,
     there: bool,
@@ -102,13 +101,13 @@ pub(crate) fn stage_row(
     ensures { (t : Tables) → on_session t result ≡ stage_found path.now size hash t s (row_if there k) }
 {
     if !stage_fits(path, size) {
-        return refuse(s, BAD);
+        return refuse(s, Refusal::Bad);
     }
     if s.token.0 == 0 {
-        return refuse(s, SESSION);
+        return refuse(s, Refusal::Session);
     }
     if !there {
-        return refuse(s, NO_TOKEN);
+        return refuse(s, Refusal::NoToken);
     }
     stage_token(s, k, path, size, hash)
 }
@@ -119,7 +118,7 @@ pub fn stage_on(t: Tables, s: Session, path: &[u8], size: u64, hash: Hash) -> Se
 {
     let n = s.token;
     let rows = t.tokens;
-    let Found::At(i) = find_token(rows, n) else {
+    let Some(i) = find_row(&rows, n) else {
         let none = rules::fresh_token();
         return stage_row(s, false, none, path, size, hash);
     };

@@ -1,4 +1,5 @@
 -- What a test of one row says of the tables that it was handed parts of. Assumes nothing.
+use Rattle.std.specs.Prelude.{Option, Some, None}
 use mathlib.Core.Path.{◌≡◌, refl, sym, ◌∙◌}
 use mathlib.Core.Bool.{Bool, false, not, ◌&&◌, ◌||◌}
 use mathlib.Core.List.{List, map}
@@ -10,8 +11,6 @@ use lib.ListN.{length, drop, get_or}
 use Rattle.text.specs.Text.{holds, is_prefix}
 use Rattle.rules.specs.Limits.{deepest, used_limit}
 use Rattle.rules.specs.Scope.{cap_fits, depth}
-use Rattle.lists.specs.declared.Found.{Found}
-use Rattle.lists.specs.declared.Found.TheVariants.{At, Nothing}
 use Rattle.lists.specs.Lists.{first_at, find, any_of}
 use Rattle.lists.specs.SearchLaws.{first_row_lem, first_miss, first_below}
 use Rattle.rules.specs.declared.VolumeNo.{VolumeNo}
@@ -61,16 +60,16 @@ module _ (t : Tables) (b : Bool) where
   parent_in k ns h e = h ∙ rw (e, any_map token_number t.tokens (numbered k.parent.0) (is_token k.parent) (λ x. refl))
 
 -- an entry's placement, where the search for its volume's number m found none, or the one at i
-module _ (t : Tables) (p : Placement) (n : VolumeNo) (m : ℕ) (ns : List ℕ) (f : Found) (e : f ≡ first_at (numbered m) 0 ns) (same : m ≡ n.0)
+module _ (t : Tables) (p : Placement) (n : VolumeNo) (m : ℕ) (ns : List ℕ) (f : Option ℕ) (e : f ≡ first_at (numbered m) 0 ns) (same : m ≡ n.0)
     (k : ns ≡ map volume_number t.volumes) where
   there : f ≡ first_at (is_volume n) 0 t.volumes
   there = in_rows volume_number (numbered n.0) t.volumes ns f (rw same at e) k
 
-  pub placed_none : f ≡ Nothing → false ≡ sound_in t p (find (is_volume n) t.volumes)
+  pub placed_none : f ≡ None → false ≡ sound_in t p (find (is_volume n) t.volumes)
   unfolding sound_in
   placed_none w = sym (rw (first_miss (is_volume n) t.volumes (sym there ∙ w)))
 
-  pub placed_at : (ws : List ℕ) (i : ℕ) (b : Bool) (last : ℕ) → f ≡ At i
+  pub placed_at : (ws : List ℕ) (i : ℕ) (b : Bool) (last : ℕ) → f ≡ Some i
       → ((u : Tables) (v : Volume) → u.last_relay ≡ last → v.k + v.m ≡ get_or ws i 0 → b ≡ sound_placement u v p)
       → ws ≡ map volume_width t.volumes → t.last_relay ≡ last → b ≡ sound_in t p (find (is_volume n) t.volumes)
   unfolding sound_in

@@ -7,7 +7,6 @@ use Rattle.lists.specs.Lists.{any_of, no_clash}
 
 module _ {A : Type 0} (f : A → ℕ) where
   any_mapped : (p : ℕ → Bool) (l : List A) → any_of p (map f l) ≡ any_of (λ x. p (f x)) l
-  unfolding any_of
   any_mapped p [] = refl
   any_mapped p (x ∷ xs) = rw (any_mapped p xs)
 

@@ -10,23 +10,22 @@ ghost use Rattle.rules.specs.Sound.{sound_in, sound_entry, sound_entries, same_e
 use super::numbers::{any_number, numbers_differ, volume_numbers, volume_widths};
 use super::path_keys::path_keys;
 use super::placements::sound_placement;
-use lists::Found;
-use rows::{find_number, is_number, wide};
+use rows::{find_number, is_number};
 use rules::{Entry, Placement, Tables, VolumeNo};
 use text::path::holds_path;
-use text::same_texts;
 
 // The volume is in the table, and the placement is of its K and M. These are the volumes' numbers, and their K+M.
 fn sound_in(numbers: &[u64], widths: &[usize], n: VolumeNo, p: Placement, last: u32) -> bool
     requires { length widths.now ≡ length numbers.now }
     ensures { (t : Tables) → numbers.now ≡ map volume_number t.volumes → widths.now ≡ map volume_width t.volumes → t.last_relay ≡ last → result ≡ sound_in t p (find (is_volume n) t.volumes) }
 {
-    let Found::At(i) = find_number(numbers, wide(n.0)) else {
+    let Some(i) = find_number(numbers, u64::from(n.0)) else {
         return false;
     };
     sound_placement(widths[i], p, last)
 }
 
+#[tactic(auto, unfolding(rules::specs::Sound::sound_entry))]
 fn sound_entry(e: Entry, numbers: &[u64], widths: &[usize], last: u32) -> bool
     requires { length widths.now ≡ length numbers.now }
     ensures { (t : Tables) → numbers.now ≡ map volume_number t.volumes → widths.now ≡ map volume_width t.volumes → t.last_relay ≡ last → result ≡ sound_entry t e }
@@ -35,8 +34,7 @@ fn sound_entry(e: Entry, numbers: &[u64], widths: &[usize], last: u32) -> bool
     if n.0 == 0 {
         return true;
     }
-    let path = e.path;
-    if !holds_path(path) {
+    if !holds_path(&e.path) {
         return false;
     }
     if 68719476736 < e.size {
@@ -53,26 +51,18 @@ fn all_entries(t: Tables) -> bool
     let volumes = t.volumes;
     let numbers = volume_numbers(volumes);
     let widths = volume_widths(volumes);
-    let mut i: usize = 0;
-    while i < 64 {
-        let e = rows[i];
-        if !sound_entry(e, &numbers, &widths, t.last_relay) {
-            return false;
-        }
-        i += 1;
-    }
-    true
+    rows.iter()
+        .all(|e| sound_entry(*e, &numbers, &widths, t.last_relay))
 }
 
+#[tactic(auto, unfolding(rules::specs::Sound::same_entry))]
 fn same_entry(a: Entry, b: Entry) -> bool
     ensures { result ≡ same_entry a b }
 {
     if !is_number(a.volume.0, b.volume.0) {
         return false;
     }
-    let x = a.path;
-    let y = b.path;
-    same_texts(x, y)
+    a.path == b.path
 }
 
 // No volume's path is held twice, where these are the entries' keys: only rows of the same key are compared.
@@ -80,8 +70,7 @@ fn paths_differ(rows: [Entry; 64], keys: [u64; 64]) -> bool
     requires { keys ≡ map path_key rows }
     ensures { result ≡ no_clash same_entry rows }
 {
-    let mut i: usize = 0;
-    while i < 64 {
+    for i in 0..64 {
         let key = keys[i];
         if key != 0 {
             let mut j = i + 1;
@@ -96,12 +85,12 @@ fn paths_differ(rows: [Entry; 64], keys: [u64; 64]) -> bool
                 j += 1;
             }
         }
-        i += 1;
     }
     true
 }
 
 // Where every key is 0, every row is free, and where no two keys are the same, no volume has a path twice.
+#[tactic(auto, unfolding(rules::specs::Sound::sound_entries))]
 pub fn sound_entries(t: Tables) -> bool
     ensures { result ≡ sound_entries t }
 {

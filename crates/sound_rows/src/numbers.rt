@@ -4,21 +4,13 @@ ghost use Rattle.lists.specs.Lists.{any_of, no_clash};
 ghost use Rattle.rules.specs.Tables.{given, numbered};
 ghost use Rattle.sound_rows.specs.Numbers.{volume_number, volume_width, volume_k, relay_number};
 
-use rows::{is_wide_number, wide};
 use rules::{Relay, Volume};
 
 // Whether a number from an index on is n.
 pub(crate) fn number_again(numbers: &[u64], n: u64, start: usize) -> bool
     ensures { result ≡ any_of (numbered n) (drop start numbers.now) }
 {
-    let mut i = start;
-    while i < numbers.len() {
-        if is_wide_number(n, numbers[i]) {
-            return true;
-        }
-        i += 1;
-    }
-    false
+    numbers.iter().skip(start).any(|row| n != 0 && *row == n)
 }
 
 fn is_some(n: u64) -> bool
@@ -31,26 +23,17 @@ fn is_some(n: u64) -> bool
 pub fn any_number(numbers: &[u64]) -> bool
     ensures { result ≡ any_of given numbers.now }
 {
-    let mut i: usize = 0;
-    while i < numbers.len() {
-        if is_some(numbers[i]) {
-            return true;
-        }
-        i += 1;
-    }
-    false
+    numbers.iter().any(|x| is_some(*x))
 }
 
 // No number is held twice.
 pub fn numbers_differ(numbers: &[u64]) -> bool
     ensures { result ≡ no_clash numbered numbers.now }
 {
-    let mut i: usize = 0;
-    while i < numbers.len() {
+    for i in 0..numbers.len() {
         if number_again(numbers, numbers[i], i + 1) {
             return false;
         }
-        i += 1;
     }
     true
 }
@@ -59,10 +42,8 @@ pub fn volume_numbers(rows: [Volume; 8]) -> [u64; 8]
     ensures { result ≡ map volume_number rows }
 {
     let mut numbers = [0u64; 8];
-    let mut i: usize = 0;
-    while i < 8 {
-        numbers[i] = wide(rows[i].no.0);
-        i += 1;
+    for i in 0..8 {
+        numbers[i] = u64::from(rows[i].no.0);
     }
     numbers
 }
@@ -79,10 +60,8 @@ pub(crate) fn volume_widths(rows: [Volume; 8]) -> [usize; 8]
     ensures { result ≡ map volume_width rows }
 {
     let mut widths = [0usize; 8];
-    let mut i: usize = 0;
-    while i < 8 {
+    for i in 0..8 {
         widths[i] = width_of(rows[i].k, rows[i].m);
-        i += 1;
     }
     widths
 }
@@ -92,10 +71,8 @@ pub fn volume_ks(rows: [Volume; 8]) -> [u8; 8]
     ensures { result ≡ map volume_k rows }
 {
     let mut ks = [0u8; 8];
-    let mut i: usize = 0;
-    while i < 8 {
+    for i in 0..8 {
         ks[i] = rows[i].k;
-        i += 1;
     }
     ks
 }
@@ -104,10 +81,8 @@ pub fn relay_numbers(rows: [Relay; 32]) -> [u64; 32]
     ensures { result ≡ map relay_number rows }
 {
     let mut numbers = [0u64; 32];
-    let mut i: usize = 0;
-    while i < 32 {
-        numbers[i] = wide(rows[i].no.0);
-        i += 1;
+    for i in 0..32 {
+        numbers[i] = u64::from(rows[i].no.0);
     }
     numbers
 }

@@ -10,15 +10,13 @@ pub(crate) fn path_keys(rows: [Entry; 64]) -> [u64; 64]
     ensures { result ≡ map path_key rows }
 {
     let mut keys = [0u64; 64];
-    let mut i: usize = 0;
-    while i < 64 {
+    for i in 0..64 {
         let e = rows[i];
         if e.volume.0 != 0 {
             let path = e.path;
             let bytes = path.bytes;
             keys[i] = bytes_key(e.volume.0, bytes, path.len);
         }
-        i += 1;
     }
     keys
 }

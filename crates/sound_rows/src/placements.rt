@@ -16,16 +16,15 @@ pub(crate) fn least(a: usize, b: usize) -> usize
 }
 
 // The numbers of a placement's relays: 0 past the last of them.
+#[tactic(auto, unfolding(crate::specs::Places::place_numbers))]
 pub fn place_numbers(p: Placement) -> [u32; 24]
     ensures { result ≡ place_numbers p }
 {
     let relays = p.relays;
     let n = least(p.len, 24);
     let mut numbers = [0u32; 24];
-    let mut i: usize = 0;
-    while i < n {
+    for i in 0..n {
         numbers[i] = relays[i].0;
-        i += 1;
     }
     numbers
 }
@@ -35,12 +34,10 @@ pub(crate) fn among(numbers: &[u32], n: u32) -> bool
     ensures { result ≡ any_of (same_number n) numbers.now }
 {
     let mut found = false;
-    let mut i: usize = 0;
-    while i < numbers.len() {
+    for i in 0..numbers.len() {
         if numbers[i] == n {
             found = true;
         }
-        i += 1;
     }
     found
 }
@@ -50,12 +47,10 @@ fn all_given(numbers: &[u32], last: u32) -> bool
     ensures { result ≡ all_of (is_given last) numbers.now }
 {
     let mut all = true;
-    let mut i: usize = 0;
-    while i < numbers.len() {
+    for i in 0..numbers.len() {
         if !is_given(last, numbers[i]) {
             all = false;
         }
-        i += 1;
     }
     all
 }
@@ -65,14 +60,12 @@ fn remainders_differ(numbers: &[u32]) -> bool
     ensures { result ≡ true → no_clash same_number numbers.now ≡ true }
 {
     let mut seen = [false; 64];
-    let mut i: usize = 0;
-    while i < numbers.len() {
+    for i in 0..numbers.len() {
         let r = (numbers[i] % 64) as usize;
         if seen[r] {
             return false;
         }
         seen[r] = true;
-        i += 1;
     }
     true
 }
@@ -84,12 +77,10 @@ fn all_differ(numbers: &[u32]) -> bool
     if remainders_differ(numbers) {
         return true;
     }
-    let mut i: usize = 0;
-    while i < numbers.len() {
+    for i in 0..numbers.len() {
         if among(&numbers[i + 1..], numbers[i]) {
             return false;
         }
-        i += 1;
     }
     true
 }

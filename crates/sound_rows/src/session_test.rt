@@ -9,13 +9,12 @@ use super::placements::least;
 use rows::{bytes_key, is_given};
 use rules::{Put, Session, Tables};
 use text::path::holds_path;
-use text::same_texts;
 
+#[tactic(auto, unfolding(rules::specs::Sound::sound_put))]
 fn sound_put(p: Put) -> bool
     ensures { result ≡ sound_put p }
 {
-    let path = p.path;
-    if !holds_path(path) {
+    if !holds_path(&p.path) {
         return false;
     }
     p.size <= 68719476736
@@ -25,24 +24,14 @@ fn sound_put(p: Put) -> bool
 fn all_puts(rows: [Put; 8], count: usize) -> bool
     ensures { result ≡ all_of sound_put (take count rows) }
 {
-    let n = least(count, 8);
-    let mut i: usize = 0;
-    while i < n {
-        let p = rows[i];
-        if !sound_put(p) {
-            return false;
-        }
-        i += 1;
-    }
-    true
+    rows.iter().take(count).all(|p| sound_put(*p))
 }
 
+#[tactic(auto, unfolding(rules::specs::Sound::same_path))]
 fn same_path(a: Put, b: Put) -> bool
     ensures { result ≡ same_path a b }
 {
-    let x = a.path;
-    let y = b.path;
-    same_texts(x, y)
+    a.path == b.path
 }
 
 // A number for each of the first n puts, which puts of the same path share.
@@ -51,13 +40,11 @@ fn put_keys(rows: [Put; 8], n: usize) -> [u64; 8]
     ensures { take n result ≡ take n (map put_key rows) }
 {
     let mut keys = [0u64; 8];
-    let mut i: usize = 0;
-    while i < n {
+    for i in 0..n {
         let p = rows[i];
         let path = p.path;
         let bytes = path.bytes;
         keys[i] = bytes_key(1, bytes, path.len);
-        i += 1;
     }
     keys
 }
@@ -68,8 +55,7 @@ fn paths_differ(rows: [Put; 8], count: usize) -> bool
 {
     let n = least(count, 8);
     let keys = put_keys(rows, n);
-    let mut i: usize = 0;
-    while i < n {
+    for i in 0..n {
         let key = keys[i];
         let mut j = i + 1;
         while j < n {
@@ -82,7 +68,6 @@ fn paths_differ(rows: [Put; 8], count: usize) -> bool
             }
             j += 1;
         }
-        i += 1;
     }
     true
 }
@@ -113,13 +98,7 @@ fn sound_session(s: Session, last_token: u32, last_volume: u32) -> bool
 pub fn all_sessions(t: Tables, slots: [Session; 4]) -> bool
     ensures { result ≡ all_of (sound_session t) slots }
 {
-    let mut i: usize = 0;
-    while i < 4 {
-        let s = slots[i];
-        if !sound_session(s, t.last_token, t.last_volume) {
-            return false;
-        }
-        i += 1;
-    }
-    true
+    slots
+        .iter()
+        .all(|s| sound_session(*s, t.last_token, t.last_volume))
 }

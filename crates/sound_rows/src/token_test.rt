@@ -32,8 +32,7 @@ fn token_fits(k: Token, last: u32) -> bool
         return false;
     }
     let scope = k.scope;
-    let prefix = scope.prefix;
-    if !holds_prefix(prefix) {
+    if !holds_prefix(&scope.prefix) {
         return false;
     }
     let cap = scope.cap;
@@ -44,6 +43,7 @@ fn token_fits(k: Token, last: u32) -> bool
 }
 
 // These are the numbers of the volumes, the numbers of the tokens and the numbers of their parents.
+#[tactic(auto, unfolding(rules::specs::Sound::sound_token))]
 fn sound_token(
     k: Token,
     volumes: &[u64],
@@ -78,19 +78,17 @@ pub fn sound_tokens(t: Tables) -> bool
 {
     let rows = t.tokens;
     let volumes = t.volumes;
-    let numbers = token_numbers(rows);
+    let numbers = token_numbers(&rows);
     if !numbers_differ(&numbers) {
         return false;
     }
-    let parents = token_parents(rows);
+    let parents = token_parents(&rows);
     let places = volume_numbers(volumes);
-    let mut i: usize = 0;
-    while i < 32 {
+    for i in 0..32 {
         let k = rows[i];
         if !sound_token(k, &places, &numbers, &parents, t.last_token) {
             return false;
         }
-        i += 1;
     }
     true
 }

@@ -7,7 +7,7 @@ ghost use Rattle.rules.specs.Sound.{sound_grace, sound_status, sound_volume, sou
 use super::numbers::{numbers_differ, volume_numbers};
 use rows::{cap_fits, is_given, owned_by, shards_fit};
 use rules::{Status, Tables, Volume};
-use text::name::{holds_name, same_names};
+use text::name::holds_name;
 
 // The grace count that the status has.
 fn sound_grace(s: Status, grace: u8) -> bool
@@ -44,8 +44,7 @@ fn sound_volume(v: Volume, last: u32, clock: u64) -> bool
     if !is_given(last, v.no.0) {
         return false;
     }
-    let name = v.name;
-    if !holds_name(name) {
+    if !holds_name(&v.name) {
         return false;
     }
     if !shards_fit(v.k, v.m) {
@@ -66,46 +65,26 @@ fn all_volumes(t: Tables) -> bool
     ensures { result ≡ all_of (sound_volume t) t.volumes }
 {
     let rows = t.volumes;
-    let mut i: usize = 0;
-    while i < 8 {
-        let v = rows[i];
-        if !sound_volume(v, t.last_volume, t.clock) {
-            return false;
-        }
-        i += 1;
-    }
-    true
+    rows.iter()
+        .all(|v| sound_volume(*v, t.last_volume, t.clock))
 }
 
+#[tactic(auto, unfolding(rules::specs::Sound::same_name, rules::specs::Tables::owned_by))]
 fn same_name(a: Volume, b: Volume) -> bool
     ensures { result ≡ same_name a b }
 {
-    if a.no.0 == 0 {
-        return false;
-    }
-    if b.no.0 == 0 {
-        return false;
-    }
-    let owner = b.owner;
-    if !owned_by(a, owner) {
-        return false;
-    }
-    let x = a.name;
-    let y = b.name;
-    same_names(x, y)
+    a.no.0 != 0 && b.no.0 != 0 && owned_by(&a, b.owner) && a.name == b.name
 }
 
 // Whether a row from an index on has the same owner and name.
 fn name_again(rows: [Volume; 8], a: Volume, start: usize) -> bool
     ensures { result ≡ any_of (same_name a) (drop start rows) }
 {
-    let mut i = start;
-    while i < 8 {
+    for i in start..8 {
         let b = rows[i];
         if same_name(a, b) {
             return true;
         }
-        i += 1;
     }
     false
 }
@@ -114,19 +93,18 @@ fn name_again(rows: [Volume; 8], a: Volume, start: usize) -> bool
 fn names_differ(rows: [Volume; 8]) -> bool
     ensures { result ≡ no_clash same_name rows }
 {
-    let mut i: usize = 0;
-    while i < 8 {
+    for i in 0..8 {
         let v = rows[i];
         if v.no.0 != 0 {
             if name_again(rows, v, i + 1) {
                 return false;
             }
         }
-        i += 1;
     }
     true
 }
 
+#[tactic(auto, unfolding(rules::specs::Sound::sound_volumes))]
 pub fn sound_volumes(t: Tables) -> bool
     ensures { result ≡ sound_volumes t }
 {

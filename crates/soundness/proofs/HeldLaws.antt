@@ -1,4 +1,5 @@
 -- The set of the relays that hold an entry's shards: one row's set, sets joined, and the loops that make them. Assumes nothing.
+use Rattle.std.specs.Prelude.{Option, Some, None}
 use mathlib.Core.Path.{◌≡◌, refl, sym, ◌∙◌, ap, ap₂}
 use mathlib.Core.Bool.{Bool, true, false, ◌&&◌, ◌||◌}
 use mathlib.Core.Logic.{⊎_elim}
@@ -16,8 +17,6 @@ use lib.Dec.{eqb}
 use lib.ListN.{length, take, get_or, set, replicate, length-set, length-replicate, length-map}
 use lib.Pow.{pow-lt}
 use lib.Seq.{take-suc, take_all, get_or-set_same, get_or-set_other}
-use Rattle.lists.specs.declared.Found.{Found}
-use Rattle.lists.specs.declared.Found.TheVariants.{At, Nothing}
 use Rattle.lists.specs.Lists.{bit, bit_set, first_at, any_of, no_clash}
 use Rattle.lists.specs.BoolLaws.{and_left, and_right, and_both, not_pass, pass_or_fail, same_test}
 use Rattle.lists.specs.SearchLaws.{first_row_lem, first_miss, first_below, miss_none, row_passes}
@@ -127,16 +126,16 @@ module _ (ns tb : List ℕ) (h : RowTable ns tb) (n : ℕ) where
       u (slot ∙ ap (λ (x : ℕ). x % 256) (sym e)))))
 
   -- by a search
-  module _ (f : Found) (m : ℕ) (same : m ≡ n) (g : f ≡ first_at (numbered m) 0 ns) where
+  module _ (f : Option ℕ) (m : ℕ) (same : m ≡ n) (g : f ≡ first_at (numbered m) 0 ns) where
     said : f ≡ first_at (numbered n) 0 ns
     said = rw same at g
 
-    pub none_set : f ≡ Nothing → 0 ≡ bit_set (numbered n) ns
+    pub none_set : f ≡ None → 0 ≡ bit_set (numbered n) ns
     none_set w =
         sym (set_none 0 (numbered n) ns
         (λ i q. none_at (numbered n) ns (miss_none (numbered n) ns 0 (first_miss (numbered n) ns (sym said ∙ w))) i q 0))
 
-    module _ (i : ℕ) (w : f ≡ At i) where
+    module _ (i : ℕ) (w : f ≡ Some i) where
       pub found_row : i < 32
       found_row = omega (arith, h.size, first_below (numbered n) ns 0 i (sym said ∙ w))
 
@@ -238,7 +237,7 @@ pub record HeldLoop (ns tb ps : List ℕ) (p s : ℕ) : Type 0 where
 
 module _ (ns tb ps : List ℕ) where
   pub held_start : RowTable ns tb → HeldLoop ns tb ps 0 0
-  unfolding on_place any_of
+  unfolding on_place
   held_start h = record { table = h; place = omega arith; made = sym (set_none 0 (on_place (take 0 ps)) ns (λ i w. refl)) }
 
   module _ (p s : ℕ) (h : HeldLoop ns tb ps p s) where
@@ -249,7 +248,7 @@ module _ (ns tb ps : List ℕ) where
     held_end w = h.made ∙ ap (λ (l : List ℕ). bit_set (on_place l) ns) (take_all p ps w)
 
     pub held_step : (x s' : ℕ) → p < length ps → x ≡ bit_set (numbered (get_or ps p 0)) ns → s' ≡ bit_or s x → HeldLoop ns tb ps (p + 1) s'
-    unfolding on_place any_of
+    unfolding on_place
     held_step x s' w e f =
         record {
           table = h.table;
@@ -305,7 +304,6 @@ unfolding held_set
 held_told ns e x s r w f t = has_test (on_place (places_of e)) ns 0 x w f t
 
 any_agree : (p q : ℕ → Bool) (l : List ℕ) → ((y : ℕ) → p y ≡ q y) → any_of p l ≡ any_of q l
-unfolding any_of
 any_agree p q [] f = refl
 any_agree p q (y ∷ ys) f = rw (f y, any_agree p q ys f)
 

@@ -1,4 +1,5 @@
 -- What the tests of the volumes and entries say of an entry's shards, and the loops over the entries. Assumes nothing.
+use Rattle.std.specs.Prelude.{Option, Some, None}
 use mathlib.Core.Path.{◌≡◌, refl, sym, ◌∙◌, ap}
 use mathlib.Core.Bool.{Bool, true, false, cond, ◌&&◌, ◌||◌}
 use mathlib.Core.List.{List, map}
@@ -10,8 +11,6 @@ use borrow.Author.Rules.{rules}
 use borrow.Author.Tests.{ltb-true, leb-true, eqb-true, ne_eqb}
 use lib.Dec.{eqb, leb}
 use lib.ListN.{length, get_or, set, replicate, length-set, length-map}
-use Rattle.lists.specs.declared.Found.{Found}
-use Rattle.lists.specs.declared.Found.TheVariants.{At, Nothing}
 use Rattle.lists.specs.Lists.{Hit, first_at, all_of, no_clash, find, hit, miss, sum_of}
 use Rattle.lists.specs.SumLaws.{bit_lt, sum_le}
 use Rattle.lists.specs.LoopLaws.{SumLoop, sum_start, sum_adds, sum_skips, sum_within, sum_all}
@@ -45,15 +44,15 @@ used_row true rest e h = absurd (let z : ◌≡◌ {A = ℕ} 0 1 = cc in omega a
 used_row false rest e h = h
 
 -- the bytes of an entry's shards, where the search for its volume's number m said f
-module _ (vs : List Volume) (e : Entry) (n m : ℕ) (ns : List ℕ) (f : Found) (w : f ≡ first_at (numbered m) 0 ns) (same : m ≡ n) (of : e.volume.0 ≡ n)
+module _ (vs : List Volume) (e : Entry) (n m : ℕ) (ns : List ℕ) (f : Option ℕ) (w : f ≡ first_at (numbered m) 0 ns) (same : m ≡ n) (of : e.volume.0 ≡ n)
     (k : ns ≡ map volume_number vs) where
   there : f ≡ first_at (is_volume e.volume) 0 vs
   there = in_rows volume_number (numbered e.volume.0) vs ns f (rw (same, ← of) at w) k
 
-  pub no_bytes : f ≡ Nothing → 0 ≡ shard_bytes vs e
+  pub no_bytes : f ≡ None → 0 ≡ shard_bytes vs e
   no_bytes q = bytes_none vs e f there q
 
-  pub some_bytes : (ks : List ℕ) (r i size : ℕ) → f ≡ At i → ks ≡ map volume_k vs → e.size ≡ size → r ≡ shard_size size (get_or ks i 0) → r ≡ shard_bytes vs e
+  pub some_bytes : (ks : List ℕ) (r i size : ℕ) → f ≡ Some i → ks ≡ map volume_k vs → e.size ≡ size → r ≡ shard_size size (get_or ks i 0) → r ≡ shard_bytes vs e
   some_bytes ks r i size q g z h =
       let below : i < length vs = omega (arith, first_below (is_volume e.volume) vs 0 i (sym there ∙ q)) in
       bytes_at_lem vs e f there r i q (h ∙ rw (z, field_at volume_k vs ks i blank_volume 0 g below))

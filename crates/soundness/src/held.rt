@@ -5,8 +5,7 @@ ghost use Rattle.rules.specs.Tables.{numbered};
 ghost use Rattle.sound_rows.specs.Numbers.{relay_number};
 ghost use Rattle.soundness.specs.Held.{on_place, held_set, ByRemainder, RowTable};
 
-use lists::Found;
-use rows::{find_number, wide};
+use rows::find_number;
 use rules::{Entry, Relay};
 use sound_rows::{place_numbers, relay_numbers};
 
@@ -15,11 +14,9 @@ fn rows_by(rows: [Relay; 32]) -> [usize; 256]
     ensures { ByRemainder (map relay_number rows) result }
 {
     let mut table = [0usize; 256];
-    let mut i: usize = 0;
-    while i < 32 {
+    for i in 0..32 {
         let r = (rows[i].no.0 % 256) as usize;
         table[r] = i;
-        i += 1;
     }
     table
 }
@@ -36,13 +33,13 @@ fn place_set(numbers: &[u64], table: &[usize], n: u32) -> u32
     let r = (n % 256) as usize;
     let k = table[r];
     let x = numbers[k];
-    if x == wide(n) {
+    if x == u64::from(n) {
         return 1 << k;
     }
-    if x % 256 != wide(n) % 256 {
+    if x % 256 != u64::from(n) % 256 {
         return 0;
     }
-    let Found::At(i) = find_number(numbers, wide(n)) else {
+    let Some(i) = find_number(numbers, u64::from(n)) else {
         return 0;
     };
     1 << i
@@ -54,11 +51,9 @@ fn places_set(numbers: &[u64], table: &[usize], places: &[u32]) -> u32
     ensures { result ≡ bit_set (on_place places.now) numbers.now }
 {
     let mut set: u32 = 0;
-    let mut p: usize = 0;
-    while p < places.len() {
+    for p in 0..places.len() {
         let one = place_set(numbers, table, places[p]);
         set |= one;
-        p += 1;
     }
     set
 }
@@ -69,15 +64,13 @@ fn held_sets(rows: [Entry; 64], numbers: &[u64], table: &[usize]) -> [u32; 64]
     ensures { result ≡ map (held_set numbers.now) rows }
 {
     let mut sets = [0u32; 64];
-    let mut i: usize = 0;
-    while i < 64 {
+    for i in 0..64 {
         let e = rows[i];
         if e.volume.0 != 0 {
             let p = e.placement;
             let places = place_numbers(p);
             sets[i] = places_set(numbers, table, &places);
         }
-        i += 1;
     }
     sets
 }

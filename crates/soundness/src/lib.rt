@@ -14,6 +14,7 @@ use rules::Desk;
 use sound_rows::all_sessions;
 
 // Whether the desk is sound. A call on a desk that is not answers 1 before all else.
+#[tactic(auto, unfolding(rules::specs::Sound::sound))]
 pub fn is_sound(d: Desk) -> bool
     ensures { result ≡ sound d }
 {

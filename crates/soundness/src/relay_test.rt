@@ -13,6 +13,7 @@ use rules::{Relay, Tables};
 use sound_rows::{any_number, numbers_differ, relay_numbers};
 
 // A row, where the entries have this load on the relay.
+#[tactic(auto, unfolding(rules::specs::Sound::sound_relay))]
 fn sound_relay(t: Tables, x: Relay, load: Load) -> bool
     requires { (load.bytes ≡ sum_of (bytes_on t.volumes x.no) t.entries) × (load.shards ≡ sum_of (shards_on x.no) t.entries) }
     ensures { result ≡ sound_relay t x }
@@ -58,26 +59,22 @@ fn relays_hold(t: Tables, sizes: [u64; 64]) -> bool
     }
     let entries = t.entries;
     let sets = relay_sets(rows, entries);
-    let mut i: usize = 0;
-    while i < 32 {
+    for i in 0..32 {
         let x = rows[i];
         let n = x.no;
         if n.0 != 0 {
             let mut bytes: u64 = 0;
             let mut shards: u32 = 0;
-            let mut j: usize = 0;
-            while j < 64 {
+            for j in 0..64 {
                 if in_set(sets[j], i) {
                     bytes += sizes[j];
                     shards += 1;
                 }
-                j += 1;
             }
             if !sound_relay(t, x, Load { bytes, shards }) {
                 return false;
             }
         }
-        i += 1;
     }
     true
 }

@@ -5,8 +5,7 @@ ghost use Rattle.rules.specs.declared.Volume.{Volume};
 ghost use Rattle.rules.specs.Relays.{shard_bytes};
 ghost use Rattle.sound_rows.specs.Numbers.{volume_number, volume_k};
 
-use lists::Found;
-use rows::{find_number, shard_size, wide};
+use rows::{find_number, shard_size};
 use rules::Tables;
 use sound_rows::{volume_ks, volume_numbers};
 
@@ -22,7 +21,7 @@ fn bytes_in(numbers: &[u64], ks: &[u8], n: u32, size: u64) -> u64
     requires { length ks.now ≡ length numbers.now }
     ensures { (vs : List Volume) (e : Entry) → numbers.now ≡ map volume_number vs → ks.now ≡ map volume_k vs → e.volume.0 ≡ n → e.size ≡ size → result ≡ shard_bytes vs e }
 {
-    let Found::At(i) = find_number(numbers, wide(n)) else {
+    let Some(i) = find_number(numbers, u64::from(n)) else {
         return 0;
     };
     shard_size(size, ks[i])
@@ -37,12 +36,10 @@ pub(crate) fn shard_sizes(t: Tables) -> [u64; 64]
     let numbers = volume_numbers(volumes);
     let ks = volume_ks(volumes);
     let mut sizes = [0u64; 64];
-    let mut i: usize = 0;
-    while i < 64 {
+    for i in 0..64 {
         if entries[i].volume.0 != 0 {
             sizes[i] = bytes_in(&numbers, &ks, entries[i].volume.0, entries[i].size);
         }
-        i += 1;
     }
     sizes
 }

@@ -26,6 +26,7 @@ fn sound_counts(t: Tables) -> bool
 }
 
 // The relays come last: their sums need sizes and K within the limits.
+#[tactic(auto, unfolding(rules::specs::Sound::sound_tables))]
 pub(crate) fn sound_tables(t: Tables) -> bool
     ensures { result ≡ sound_tables t }
 {

@@ -174,7 +174,7 @@ pub(crate) fn placements(out: &mut impl Write, d: Desk) -> io::Result<()> {
 pub(crate) fn tokens(out: &mut impl Write, d: Desk) -> io::Result<()> {
     let k = full::token(33, 31, Cap::Unlimited);
     show(out, b"a token number not yet given", with_token(d, k))?;
-    let word = text::to_text(b"w");
+    let word = Text::truncated(b"w");
     let mut k = full::token(32, 31, Cap::Unlimited);
     let mut scope = k.scope;
     scope.prefix = word;

@@ -97,7 +97,7 @@ fn entries() -> [Entry; 64] {
 }
 
 pub(crate) fn token(n: u32, parent: u32, cap: Cap) -> Token {
-    let prefix = text::empty_text();
+    let prefix = Text::empty();
     let scope = Scope {
         prefix,
         mode: Mode::Both,

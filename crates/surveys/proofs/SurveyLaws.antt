@@ -97,7 +97,7 @@ module _ (n : VolumeNo) (ms : List Bool) (es : List Entry) where
       b = get_or ms i false
 
       step : within' ≡ (within && entry_within e) → used' ≡ used + bit (used_entry e) → kept' ≡ kept + left_size n b e → TallyLoop n ms es (i + 1) within' kept' used'
-      unfolding all_of count_if left_bytes
+      unfolding count_if left_bytes
       step a c d =
           let x : drop i es ≡ e ∷ drop (i + 1) es = rw (add-one i) (drop-cons es i blank_entry (omega (arith, h.size))) in
           let y : drop i ms ≡ b ∷ drop (i + 1) ms = rw (add-one i) (drop-cons ms i false (omega (arith, h.marks))) in
@@ -161,7 +161,7 @@ no_marks p [] f = refl
 no_marks p (x ∷ xs) f = rw (f x, no_marks p xs f)
 
 never : (n : VolumeNo) (e : Entry) → is_replaced n [] e ≡ false
-unfolding is_replaced any_of
+unfolding is_replaced
 never n e = and-false (in_volume n e)
 
 none_replaced : (n : VolumeNo) (count : ℕ) (puts : List Put) (es : List Entry) → count ≡ 0 → length es ≡ 64

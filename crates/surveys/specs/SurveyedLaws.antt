@@ -34,7 +34,7 @@ stays_unless true b = refl
 stays_unless false b = refl
 
 left_sum : (n : VolumeNo) (ps : List Put) (es : List Entry) → all_of entry_within es ≡ true → left_bytes n (map (is_replaced n ps) es) es ≡ sum_of (kept_size n ps) es
-unfolding left_bytes all_of sum_of is_replaced is_kept
+unfolding left_bytes sum_of is_replaced is_kept
 left_sum n ps [] w = refl
 left_sum n ps (e ∷ es) w =
     rw (

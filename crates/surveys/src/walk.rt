@@ -24,8 +24,7 @@ fn tally(entries: [Entry; 64], n: VolumeNo, marks: [bool; 64]) -> Sums
     let mut within = true;
     let mut kept: u64 = 0;
     let mut used: usize = 0;
-    let mut i: usize = 0;
-    while i < 64 {
+    for i in 0..64 {
         if entries[i].volume.0 != 0 {
             used += 1;
             if 68719476736 < entries[i].size {
@@ -38,7 +37,6 @@ fn tally(entries: [Entry; 64], n: VolumeNo, marks: [bool; 64]) -> Sums
                 }
             }
         }
-        i += 1;
     }
     Sums { within, kept, used }
 }

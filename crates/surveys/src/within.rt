@@ -6,27 +6,21 @@ ghost use Rattle.surveys.specs.RowLimits.{volume_within, token_within, relay_wit
 use rows::shards_fit;
 use rules::{Put, Relay, Session, Token, Volume};
 
+#[tactic(auto, unfolding(crate::specs::RowLimits::volume_within))]
 fn volume_within(v: Volume) -> bool
     ensures { result ≡ volume_within v }
 {
-    if v.no.0 == 0 {
-        return true;
-    }
-    shards_fit(v.k, v.m)
+    v.no.0 == 0 || shards_fit(v.k, v.m)
 }
 
+#[tactic(auto, unfolding(crate::specs::RowLimits::relay_within))]
 fn relay_within(x: Relay) -> bool
     ensures { result ≡ relay_within x }
 {
-    if x.no.0 == 0 {
-        return true;
-    }
-    if 4398046511104 < x.used {
-        return false;
-    }
-    x.held <= 64
+    x.no.0 == 0 || (x.used <= 4398046511104 && x.held <= 64)
 }
 
+#[tactic(auto, unfolding(crate::specs::RowLimits::put_within))]
 fn put_within(p: Put) -> bool
     ensures { result ≡ put_within p }
 {
@@ -36,44 +30,21 @@ fn put_within(p: Put) -> bool
 fn all_volumes(rows: [Volume; 8]) -> bool
     ensures { result ≡ all_of volume_within rows }
 {
-    let mut i: usize = 0;
-    while i < 8 {
-        let v = rows[i];
-        if !volume_within(v) {
-            return false;
-        }
-        i += 1;
-    }
-    true
+    rows.iter().all(|v| volume_within(*v))
 }
 
+#[tactic(auto, unfolding(crate::specs::RowLimits::token_within))]
 fn all_tokens(rows: [Token; 32]) -> bool
     ensures { result ≡ all_of token_within rows }
 {
-    let mut i: usize = 0;
-    while i < 32 {
-        if rows[i].no.0 != 0 {
-            if 1152921504606846976 < rows[i].used {
-                return false;
-            }
-        }
-        i += 1;
-    }
-    true
+    rows.iter()
+        .all(|k| k.no.0 == 0 || k.used <= 1152921504606846976)
 }
 
 fn all_relays(rows: [Relay; 32]) -> bool
     ensures { result ≡ all_of relay_within rows }
 {
-    let mut i: usize = 0;
-    while i < 32 {
-        let x = rows[i];
-        if !relay_within(x) {
-            return false;
-        }
-        i += 1;
-    }
-    true
+    rows.iter().all(|x| relay_within(*x))
 }
 
 // The first `count` puts.
@@ -81,45 +52,27 @@ fn all_puts(rows: [Put; 8], count: usize) -> bool
     requires { count ≤ 8 }
     ensures { result ≡ all_of put_within (take count rows) }
 {
-    let mut i: usize = 0;
-    while i < count {
-        let p = rows[i];
-        if !put_within(p) {
-            return false;
-        }
-        i += 1;
-    }
-    true
+    rows[..count].iter().all(|p| put_within(*p))
 }
 
+#[tactic(auto, unfolding(crate::specs::RowLimits::session_within))]
 fn session_within(s: Session) -> bool
     ensures { result ≡ session_within s }
 {
-    if 8 < s.count {
-        return false;
-    }
-    let puts = s.puts;
-    all_puts(puts, s.count)
+    s.count <= 8 && all_puts(s.puts, s.count)
 }
 
 // Whether the sums of the checks fit: of the session, the volumes, the relays, and the bytes that stay.
+#[tactic(auto, unfolding(crate::specs::RowLimits::can_check))]
 pub fn can_check(volumes: [Volume; 8], relays: [Relay; 32], s: Session, kept: u64) -> bool
     ensures { result ≡ can_check volumes relays s kept }
 {
-    if !session_within(s) {
-        return false;
-    }
-    if !all_volumes(volumes) {
-        return false;
-    }
-    if !all_relays(relays) {
-        return false;
-    }
-    kept <= 4398046511104
+    session_within(s) && all_volumes(volumes) && all_relays(relays) && kept <= 4398046511104
 }
 
 // Whether the puts can be stored: the rows of the volume and the token are in their tables, the volume's version is not the last, and the session and
 // the tokens are within their limits.
+#[tactic(auto, unfolding(crate::specs::RowLimits::can_store))]
 pub fn can_store(
     volumes: [Volume; 8],
     tokens: [Token; 32],
@@ -129,27 +82,16 @@ pub fn can_store(
 ) -> bool
     ensures { result ≡ can_store volumes tokens s volume token }
 {
-    if 8 <= volume {
-        return false;
-    }
-    if 4294967295 <= volumes[volume].version {
-        return false;
-    }
-    if !session_within(s) {
-        return false;
-    }
-    if !all_tokens(tokens) {
-        return false;
-    }
-    token < 32
+    volume < 8
+        && volumes[volume].version < 4294967295
+        && session_within(s)
+        && all_tokens(tokens)
+        && token < 32
 }
 
 // Whether the entries, of which `within` says it, and the tokens are within their limits.
 pub fn others_within(within: bool, tokens: [Token; 32]) -> bool
     ensures { result ≡ (within && all_of token_within tokens) }
 {
-    if !within {
-        return false;
-    }
-    all_tokens(tokens)
+    within && all_tokens(tokens)
 }

@@ -2,7 +2,6 @@
 use Rattle.std.specs.Prelude.{◌≡◌, refl, Bool, true, false, List, [], ◌∷◌, ◌++◌, map, ℕ, replicate}
 use Prim.Native.Char.{code}
 use Prim.Native.String.{String, [] as done, ◌∷◌ as ◌then◌}
-use Rattle.lists.specs.Bytes.{starts_with}
 use Rattle.text.specs.Text.{slash, is_path, is_prefix, is_name, covers}
 
 -- the bytes of a quoted text
@@ -76,5 +75,5 @@ cases =
     ∷ []
 
 pub every_case : map (λ (c : Case). c.says) cases ≡ map (λ (c : Case). c.right) cases
-unfolding cases path prefix name covered ascii is_path is_prefix is_name starts_with
+unfolding cases path prefix name covered ascii is_path is_prefix is_name
 every_case = refl

@@ -1,14 +1,14 @@
--- Where the quick test passes, every part passes; the number that the code compares; and the loop over the pairs of bytes. Assumes nothing.
+-- Where the quick test passes, every part passes; and the loop over the pairs of bytes. Assumes nothing.
 use Rattle.std.specs.Prelude.{◌≡◌, refl, Bool, true, false, ◌&&◌, ◌||◌, not, List, [], ◌∷◌, eqb, drop, get_or}
 use Rattle.std.proofs.Common.{sym, ◌∙◌, ⊎_elim, eq-eqb, eqb-true, rules, length-drop}
-use Rattle.std.proofs.Math.Bool.{and-true, and-false}
-use Prim.Native.Nat.{ℕ, suc, ◌+◌, ◌-◌, ◌*◌, ◌/◌, ◌<◌, ◌≤◌}
+use Rattle.std.proofs.Math.Bool.{and-true, and_assoc}
+use Prim.Native.Nat.{ℕ, suc, ◌+◌, ◌-◌, ◌<◌, ◌≤◌}
 use native.Mathlib.Omega.{arith}
-use Rattle.std.proofs.lemmas.Bool.{eqb-false, not-true}
+use Rattle.std.proofs.lemmas.Bool.{not-true}
 use Rattle.std.proofs.Math.ListN.{length}
 use Rattle.std.proofs.Math.Seq.{drop-cons}
 use Rattle.lists.specs.Lists.{all_of}
-use Rattle.lists.specs.BoolLaws.{and_left, and_right, and_both, or_left, or_right, pass_or_fail, same_test}
+use Rattle.lists.specs.BoolLaws.{and_left, and_right, and_both, or_left, or_right, pass_or_fail}
 use Rattle.text.specs.Text.{slash, dot, parts, is_part}
 use Rattle.text.specs.Scan.{is_other, passes}
 use Rattle.text.specs.Plain.{is_doubtful, plain_pairs, plain_parts}
@@ -28,7 +28,7 @@ module _ (a : ℕ) (s : List ℕ) where
 
 -- the parts after the first pass where all pairs are plain and the last byte is no slash
 rest_passes : (a : ℕ) (s : List ℕ) → plain_pairs (a ∷ s) ≡ true → eqb (get_or (a ∷ s) (length s) 0) slash ≡ false → (known (parts (a ∷ s))).rest ≡ true
-unfolding plain_pairs known parts all_of
+unfolding plain_pairs known parts
 rest_passes a [] e f = rest_other a [] f
 rest_passes a (b ∷ bs) e f =
     let after = rest_passes b bs (and_right (not (is_doubtful a b)) (plain_pairs (b ∷ bs)) e) f in
@@ -56,24 +56,6 @@ plain_passes (b ∷ bs) h e =
 pub plain_told : (r : Bool) (s : List ℕ) → r ≡ true → r ≡ plain_parts s → 1 ≤ length s → true ≡ all_of is_part (parts s)
 plain_told r s t e h = sym (plain_passes s h (sym e ∙ t))
 
--- the two bytes as one number, without its last bit
-module _ (a b : ℕ) (h : b < 256) where
-  number_pair : eqb ((a * 256 + b) / 2) 6039 ≡ true → is_doubtful a b ≡ true
-  number_pair e =
-      let m = eqb-true ((a * 256 + b) / 2) 6039 e in
-      and_both (eq-eqb a slash (omega arith))
-      (⊎_elim (λ t. rw t) (λ t. rw t (eq-eqb b dot (omega (arith, eqb-false b slash t)))) (pass_or_fail (eqb b slash)))
-
-  pair_number : is_doubtful a b ≡ true → eqb ((a * 256 + b) / 2) 6039 ≡ true
-  pair_number e =
-      let m = eqb-true a slash (and_left (eqb a slash) (eqb b slash || eqb b dot) e) in
-      let r = and_right (eqb a slash) (eqb b slash || eqb b dot) e in
-      eq-eqb ((a * 256 + b) / 2) 6039
-      (⊎_elim (λ t. omega (arith, eqb-true b slash t)) (λ t. omega (arith, eqb-true b dot (rw t at r))) (pass_or_fail (eqb b slash)))
-
-  pub same_pair : eqb ((a * 256 + b) / 2) 6039 ≡ is_doubtful a b
-  same_pair = same_test (eqb ((a * 256 + b) / 2) 6039) (is_doubtful a b) number_pair pair_number
-
 -- the loop over the pairs: all says whether those before the pair of i - 1 and i are plain
 pub record PairsLoop (s : List ℕ) (i : ℕ) (all : Bool) : Type 0 where
   pub place : 0 < i
@@ -98,16 +80,12 @@ module _ (s : List ℕ) where
         rw (drop-cons s (i - 1) 0 l, q, drop-cons s i 0 k)
 
     -- b is what the code's test said of the pair, and all' what it says after it
-    module _ (b all' : Bool) (k : i < length s) (e : b ≡ is_doubtful (get_or s (i - 1) 0) (get_or s i 0)) where
-      pub pairs_doubtful : b ≡ true → all' ≡ false → PairsLoop s (i + 1) all'
-      pairs_doubtful t q = rw q (record { place = omega arith; rest = h.rest ∙ rw (pair_here k, ← e, t) (and-false all) })
-
-      pub pairs_on : b ≡ false → all' ≡ all → PairsLoop s (i + 1) all'
-      pairs_on t q =
-          let z : i + 1 - 1 ≡ i = omega arith in
-          rw q (record { place = omega arith; rest = h.rest ∙ rw (pair_here k, ← e, t, z) })
+    pub pairs_step : (b all' : Bool) → i < length s → b ≡ is_doubtful (get_or s (i - 1) 0) (get_or s i 0) → all' ≡ (all && not b) → PairsLoop s (i + 1) all'
+    pairs_step b all' k e q =
+        let z : i + 1 - 1 ≡ i = omega arith in
+        rw q (record { place = omega arith; rest = h.rest ∙ rw (pair_here k, ← e, z) (sym (and_assoc all (not b) (plain_pairs (drop i s)))) })
 
     pub pairs_end : length s ≤ i → all ≡ plain_pairs s
     pairs_end k = sym (h.rest ∙ rw (short_plain (drop (i - 1) s) (omega (arith, length-drop (i - 1) s))) (and-true all))
 
-pub ruleset pairs = (pairs_doubtful, pairs_on, pairs_end, pairs_start, rules)
+pub ruleset pairs = (pairs_step, pairs_end, pairs_start, rules)

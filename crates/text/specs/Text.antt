@@ -2,8 +2,7 @@
 use Rattle.std.specs.Prelude.{Bool, true, ◌&&◌, ◌||◌, cond, not, List, [], ◌∷◌, ◌++◌, ℕ, ◌-◌, eqb, leb, length, take, get_or, replicate}
 use Rattle.lists.specs.Lists.{all_of}
 use Rattle.lists.specs.Bytes.{same_bytes, starts_with}
-use Rattle.text.specs.declared.Text.{Text}
-use Rattle.text.specs.declared.name.Name.{Name}
+use Rattle.text.specs.declared.BoundedText.{BoundedText}
 
 -- 01: "Path: 1 to 128 bytes"; "Prefix: .. at most 128 bytes in all". 02, W1: "Paths go to 512 bytes, as source document 000 has it, and
 -- prefixes to 512 with their slash."
@@ -48,13 +47,12 @@ parts (b ∷ bs) = cond (eqb b slash) ([] ∷ parts bs) (onto_first b (parts bs)
 
 -- "no empty, "." or ".." part (H)"
 unfoldable pub is_part : List ℕ → Bool
-unfolding same_bytes
 is_part p = not (same_bytes p [] || same_bytes p (dot ∷ []) || same_bytes p (dot ∷ dot ∷ []))
 
 -- "Path: 1 to 128 bytes in 0x21..0x7E; no leading or trailing "/" (001), no empty, "." or ".." part (H)", with W1's 512 for 128. Before a leading
 -- slash and after a trailing one stands an empty part.
 unfoldable pub is_path : List ℕ → Bool
-unfolding all_of parts is_part
+unfolding parts is_part
 is_path s = within 1 path_limit (length s) && all_of is_path_byte s && all_of is_part (parts s)
 
 -- all bytes but the last
@@ -83,31 +81,40 @@ is_name_byte b =
 
 -- "name 1 to 64 bytes of a-z A-Z 0-9 _ - . (001)"
 unfoldable pub is_name : List ℕ → Bool
-unfolding all_of
 is_name s = within 1 name_limit (length s) && all_of is_name_byte s
 
 -- bytes followed by zeros, w in all
 abbrev pub padded : ℕ → List ℕ → List ℕ
 padded w s = s ++ replicate (w - length s) 0
 
+-- a path or a prefix, and a name
+abbrev pub Text : Type 0
+Text = BoundedText path_limit
+
+abbrev pub Name : Type 0
+Name = BoundedText name_limit
+
 -- the bytes of a text
-abbrev pub text_bytes : Text → List ℕ
+abbrev pub text_bytes : {n : ℕ} → BoundedText n → List ℕ
 text_bytes t = take t.len t.bytes
 
--- the text of at most 512 bytes
-abbrev pub to_text : List ℕ → Text
-to_text s = record { bytes = padded path_limit s; len = length s }
+-- the text of at most n bytes
+abbrev pub text_of : (n : ℕ) → List ℕ → BoundedText n
+text_of n s = record { bytes = padded n s; len = length s }
 
 -- a text whose bytes lie within its array and pass the test
-abbrev pub holds : (List ℕ → Bool) → Text → Bool
-holds p t = leb t.len path_limit && p (text_bytes t)
+abbrev pub holds : {n : ℕ} → (List ℕ → Bool) → BoundedText n → Bool
+holds {n} p t = leb t.len n && p (text_bytes t)
 
--- the same of a name, which has at most 64 bytes
+-- at a path or a prefix, which has at most 512 bytes, and at a name, which has at most 64
+abbrev pub to_text : List ℕ → Text
+to_text s = text_of path_limit s
+
 abbrev pub name_bytes : Name → List ℕ
-name_bytes t = take t.len t.bytes
+name_bytes t = text_bytes t
 
 abbrev pub to_name : List ℕ → Name
-to_name s = record { bytes = padded name_limit s; len = length s }
+to_name s = text_of name_limit s
 
 abbrev pub holds_name : Name → Bool
-holds_name t = leb t.len name_limit && is_name (name_bytes t)
+holds_name t = holds is_name t

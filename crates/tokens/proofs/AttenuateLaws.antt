@@ -1,12 +1,11 @@
 -- Attenuate: at the row of the parent, and in the table of the tokens. Assumes nothing.
+use Rattle.std.specs.Prelude.{Option, Some, None}
 use mathlib.Core.Path.{◌≡◌, refl, sym, ◌∙◌}
 use mathlib.Core.Bool.{Bool, true, false, not, cond}
 use mathlib.Core.List.{List}
 use Prim.Native.Nat.{ℕ}
 use borrow.Author.Tests.{not-true, not-false}
 use lib.ListN.{get_or}
-use Rattle.lists.specs.declared.Found.{Found}
-use Rattle.lists.specs.declared.Found.TheVariants.{At, Nothing}
 use Rattle.lists.specs.Lists.{hit, miss, find, first_at}
 use Rattle.lists.specs.SearchLaws.{first_row_lem, first_miss}
 use Rattle.rules.specs.declared.TokenNo.{TokenNo}
@@ -43,7 +42,7 @@ module _ (t : Tables) (s : ScopeArg) (d : ℕ) (there : Bool) (k : Token) where
   attenuate_at i last free old r w g l h = g t i old l h ∙ sym (rw (not-false there w))
 
 -- f is what the search of the rows for a free one said, d the depth of k, and o the new token
-pub attenuate_stored : (t : Tables) (rows : List Token) (last : ℕ) (s : ScopeArg) (n : TokenNo) (there : Bool) (k : Token) (j d : ℕ) (f : Found) (free : Bool)
+pub attenuate_stored : (t : Tables) (rows : List Token) (last : ℕ) (s : ScopeArg) (n : TokenNo) (there : Bool) (k : Token) (j d : ℕ) (f : Option ℕ) (free : Bool)
     (o : NewToken) (r : TokensOutcome)
     → r ≡ stored_in rows last (place_of f) o → f ≡ first_at free_token 0 rows → free ≡ is_found f → t.tokens ≡ rows → t.last_token ≡ last
     → token_of n t ≡ cond there (hit j k) miss → d ≡ depth rows k
@@ -56,15 +55,15 @@ attenuate_stored t rows last s n there k j d f free o r h e q v l here deep g =
     ∙ attenuate_by_row t n s d there j k here (rw v (sym deep))
 
 -- f is what the search for the token n said
-module _ (t : Tables) (s : ScopeArg) (n : TokenNo) (f : Found) (e : f ≡ first_at (is_token n) 0 t.tokens) (r : TokensOutcome) where
-  pub attenuate_missed : (k : Token) → k ≡ fresh_token → f ≡ Nothing
+module _ (t : Tables) (s : ScopeArg) (n : TokenNo) (f : Option ℕ) (e : f ≡ first_at (is_token n) 0 t.tokens) (r : TokensOutcome) where
+  pub attenuate_missed : (k : Token) → k ≡ fresh_token → f ≡ None
       → ((u : Tables) (m : TokenNo) (j : ℕ) → u.tokens ≡ t.tokens → u.last_token ≡ t.last_token → token_of m u ≡ cond false (hit j k) miss
       → on_tokens u r ≡ attenuate_rule m s u)
       → on_tokens t r ≡ attenuate_rule n s t
   unfolding token_of
   attenuate_missed k b w g = g t n 0 refl refl (first_miss (is_token n) t.tokens (sym e ∙ w))
 
-  pub attenuate_found_lem : (i : ℕ) → f ≡ At i
+  pub attenuate_found_lem : (i : ℕ) → f ≡ Some i
       → ((u : Tables) (m : TokenNo) (j : ℕ) → u.tokens ≡ t.tokens → u.last_token ≡ t.last_token
       → token_of m u ≡ cond true (hit j (get_or t.tokens i blank_token)) miss → on_tokens u r ≡ attenuate_rule m s u)
       → on_tokens t r ≡ attenuate_rule n s t

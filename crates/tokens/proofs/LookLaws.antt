@@ -1,11 +1,11 @@
 -- Look: at the rows of its token and of its path, and in the tables. Assumes nothing.
+use Rattle.std.specs.Prelude.{Option}
 use mathlib.Core.Path.{◌≡◌, refl, sym, ◌∙◌}
 use mathlib.Core.Bool.{Bool, true, false, not, cond}
 use mathlib.Core.List.{List}
 use Prim.Native.Nat.{ℕ, ◌<◌, ◌≤◌}
 use borrow.Author.Tests.{not-true, not-false}
 use lib.ListN.{get_or}
-use Rattle.lists.specs.declared.Found.{Found}
 use Rattle.lists.specs.Lists.{hit, miss, first_at}
 use Rattle.lists.specs.LoopLaws.{FindLoop, find_end}
 use Rattle.lists.specs.SearchLaws.{first_row_lem, first_miss}
@@ -82,7 +82,7 @@ module _ (t : Tables) (path : List ℕ) (there : Bool) (k : Token) where
   look_at_lem clock es r w c v g = g t c v ∙ sym (rw (not-false there w))
 
 -- f is what the search for the token n said
-pub look_told : (t : Tables) (path : List ℕ) (n : TokenNo) (f : Found) (there : Bool) (i : ℕ) (r : Answer) → f ≡ first_at (is_token n) 0 t.tokens
+pub look_told : (t : Tables) (path : List ℕ) (n : TokenNo) (f : Option ℕ) (there : Bool) (i : ℕ) (r : Answer) → f ≡ first_at (is_token n) 0 t.tokens
     → there ≡ is_found f → i ≡ place_of f
     → ((u : Tables) → u.clock ≡ t.clock → u.entries ≡ t.entries → unchanged u r ≡ look_found u path (row_if there (get_or t.tokens i blank_token)))
     → unchanged t r ≡ look_rule n path t

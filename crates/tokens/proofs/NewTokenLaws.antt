@@ -1,4 +1,5 @@
 -- A new token, of code that was handed the last number given and whether a row is free, and the table that it is stored in. Assumes nothing.
+use Rattle.std.specs.Prelude.{Option, Some, None}
 use mathlib.Core.Path.{◌≡◌, refl, ap, sym, ◌∙◌}
 use mathlib.Core.Bool.{Bool, true, false, not, cond}
 use mathlib.Core.List.{List}
@@ -8,8 +9,6 @@ use lib.Dec.{leb}
 use lib.ListN.{set}
 use lib.Seq.{take_all}
 use Rattle.amount.specs.declared.Cap.{Cap}
-use Rattle.lists.specs.declared.Found.{Found}
-use Rattle.lists.specs.declared.Found.TheVariants.{At, Nothing}
 use Rattle.lists.specs.Lists.{find, hit, miss}
 use Rattle.lists.specs.BoolLaws.{not_both}
 use Rattle.text.specs.Text.{path_limit, is_prefix}
@@ -85,21 +84,21 @@ pub token_told : (t : Tables) (i last : ℕ) (free : Bool) (old : Token) (r : Ne
 token_told t i last free old r v p a b g f e q = g t i old f e ∙ rw q
 
 -- what a search said: f
-module _ (f : Found) where
-  pub found_none : f ≡ Nothing → false ≡ is_found f
+module _ (f : Option ℕ) where
+  pub found_none : f ≡ None → false ≡ is_found f
   found_none e = sym (rw e)
 
-  pub found_some : (i : ℕ) → f ≡ At i → true ≡ is_found f
+  pub found_some : (i : ℕ) → f ≡ Some i → true ≡ is_found f
   found_some i e = sym (rw e)
 
-  pub place_none : f ≡ Nothing → 0 ≡ place_of f
+  pub place_none : f ≡ None → 0 ≡ place_of f
   place_none e = sym (rw e)
 
-  pub place_some : (i : ℕ) → f ≡ At i → i ≡ place_of f
+  pub place_some : (i : ℕ) → f ≡ Some i → i ≡ place_of f
   place_some i e = sym (rw e)
 
 -- the tokens and the last number as they were, or with the new token
-module _ (rows : List Token) (last : ℕ) (f : Found) (o : NewToken) where
+module _ (rows : List Token) (last : ℕ) (f : Option ℕ) (o : NewToken) where
   pub store_none : not o.stored ≡ true → record { answer = o.answer; tokens = rows; last = last } ≡ stored_in rows last (place_of f) o
   store_none q = rw (not-true o.stored q)
 

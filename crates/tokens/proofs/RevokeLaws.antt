@@ -1,4 +1,5 @@
 -- Revoke: at the row of its token, and in the tables; and the loop that clears the rows of a set. Assumes nothing.
+use Rattle.std.specs.Prelude.{Option, Some, None}
 use mathlib.Core.Path.{◌≡◌, refl, sym, ◌∙◌}
 use mathlib.Core.Bool.{Bool, true, false, not, cond}
 use mathlib.Core.List.{List, map}
@@ -8,8 +9,6 @@ use borrow.Author.Rules.{rules}
 use borrow.Author.Tests.{not-true, not-false}
 use lib.Dec.{eqb}
 use lib.ListN.{length, get_or, set}
-use Rattle.lists.specs.declared.Found.{Found}
-use Rattle.lists.specs.declared.Found.TheVariants.{At, Nothing}
 use Rattle.lists.specs.Lists.{hit, miss, first_at, bit_set}
 use Rattle.lists.specs.ByteLoopLaws.{FillLoop, fill_start, fill_same, fill_step_first, fill_whole}
 use Rattle.lists.specs.RowLaws.{rows_length}
@@ -50,19 +49,19 @@ module _ (t : Tables) (a : Account) (there : Bool) (k : Token) where
   revoke_missed r q e = refused_drop t r NO_TOKEN e ∙ sym (rw (not-true there q))
 
   -- f is what the search of the volumes said
-  module _ (q : not there ≡ false) (vs : List Volume) (v : t.volumes ≡ vs) (f : Found) (e : f ≡ first_at (is_volume k.volume) 0 vs) where
+  module _ (q : not there ≡ false) (vs : List Volume) (v : t.volumes ≡ vs) (f : Option ℕ) (e : f ≡ first_at (is_volume k.volume) 0 vs) where
     by_owner : (x : TablesOutcome) → x ≡ revoke_owner t a k (volume_of k.volume t) → x ≡ revoke_in t a (row_if there k)
     unfolding revoke_in
     by_owner x w = w ∙ sym (rw (not-false there q))
 
-    pub owner_none : (r : Dropped) → f ≡ Nothing → r ≡ none_dropped NOT_OWNER → dropped_from t r ≡ revoke_in t a (row_if there k)
+    pub owner_none : (r : Dropped) → f ≡ None → r ≡ none_dropped NOT_OWNER → dropped_from t r ≡ revoke_in t a (row_if there k)
     unfolding revoke_owner volume_of
     owner_none r w g =
         let m : volume_of k.volume t ≡ miss = rw v (first_miss (is_volume k.volume) vs (sym e ∙ w)) in
         by_owner (dropped_from t r) (refused_drop t r NOT_OWNER g ∙ sym (rw m))
 
     -- b says whether the account owns the volume in the row j
-    module _ (j : ℕ) (w : f ≡ At j) (b : Bool) (o : b ≡ owned_by a (get_or vs j blank_volume)) where
+    module _ (j : ℕ) (w : f ≡ Some j) (b : Bool) (o : b ≡ owned_by a (get_or vs j blank_volume)) where
       found : volume_of k.volume t ≡ hit j (get_or vs j blank_volume)
       unfolding volume_of
       found = rw v (first_row_lem (is_volume k.volume) vs j (sym e ∙ w) blank_volume)
@@ -91,12 +90,12 @@ revoke_told t a n i last k vs rows out ns ps x s c m d e v q l h g =
     rw (c, ← q, ← l) (g t (rw q m) v (rw q d) (rw q e) ∙ revoke_by_row t a n true i k h)
 
 -- f is what the search for the token n said
-module _ (t : Tables) (a : Account) (n : TokenNo) (f : Found) (e : f ≡ first_at (is_token n) 0 t.tokens) (r : TokensOutcome) where
-  pub revoke_none : f ≡ Nothing → on_tokens t r ≡ refused t NO_TOKEN → on_tokens t r ≡ revoke_rule a n t
+module _ (t : Tables) (a : Account) (n : TokenNo) (f : Option ℕ) (e : f ≡ first_at (is_token n) 0 t.tokens) (r : TokensOutcome) where
+  pub revoke_none : f ≡ None → on_tokens t r ≡ refused t NO_TOKEN → on_tokens t r ≡ revoke_rule a n t
   unfolding revoke_rule revoke_in token_of
   revoke_none w h = h ∙ sym (rw (first_miss (is_token n) t.tokens (sym e ∙ w)))
 
-  pub revoke_found : (i : ℕ) → f ≡ At i
+  pub revoke_found : (i : ℕ) → f ≡ Some i
       → ((u : Tables) (m : TokenNo) (j : ℕ) → u.volumes ≡ t.volumes → u.tokens ≡ t.tokens → u.last_token ≡ t.last_token
       → token_of m u ≡ hit j (get_or t.tokens i blank_token) → on_tokens u r ≡ revoke_rule a m u)
       → on_tokens t r ≡ revoke_rule a n t

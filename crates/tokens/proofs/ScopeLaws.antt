@@ -8,7 +8,7 @@ use lib.Seq.{take_all}
 use Rattle.amount.specs.declared.Cap.{Cap}
 use Rattle.lists.specs.BoolLaws.{and_left}
 use Rattle.lists.specs.AnswerLaws.{said_yes}
-use Rattle.text.specs.declared.Text.{Text}
+use Rattle.text.specs.Text.{Text}
 use Rattle.text.specs.Text.{path_limit, is_prefix, to_text}
 use Rattle.text.specs.TextLaws.{prefix_fits}
 use Rattle.rules.specs.declared.Mode.{Mode}

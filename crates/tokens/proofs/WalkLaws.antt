@@ -1,4 +1,5 @@
 -- The walk up a chain of parents that looks for one token, and its loop; and the loop that makes the set of the rows by it. Assumes nothing.
+use Rattle.std.specs.Prelude.{Option, Some, None}
 use mathlib.Core.Path.{◌≡◌, refl, sym, ◌∙◌}
 use mathlib.Core.Bool.{Bool, true, false, ◌||◌}
 use mathlib.Core.List.{List, map}
@@ -7,8 +8,6 @@ use native.Mathlib.Omega.{arith}
 use borrow.Author.Rules.{rules}
 use lib.Bits.{bit_or}
 use lib.ListN.{length, get_or, take, get_or-map}
-use Rattle.lists.specs.declared.Found.{Found}
-use Rattle.lists.specs.declared.Found.TheVariants.{At, Nothing}
 use Rattle.lists.specs.Lists.{first_at, any_of, bit_set}
 use Rattle.lists.specs.BitLaws.{up_none, up_here, up_on, up_end, up_lt, or_row}
 use Rattle.lists.specs.RowLaws.{any_map}
@@ -28,16 +27,13 @@ abbrev pub seen : List ℕ → List ℕ → ℕ → ℕ → ℕ → Bool
 seen ns ps n m p = any_of (numbered n) (chain_in ns ps m p)
 
 module _ (ns ps : List ℕ) (n : ℕ) where
-  seen_none : (m p : ℕ) → first_at (numbered p) 0 ns ≡ Nothing → seen ns ps n m p ≡ false
-  unfolding any_of
+  seen_none : (m p : ℕ) → first_at (numbered p) 0 ns ≡ None → seen ns ps n m p ≡ false
   seen_none m p e = rw (link_none ns ps p m e)
 
-  seen_step : (m p i : ℕ) → first_at (numbered p) 0 ns ≡ At i → seen ns ps n (suc m) p ≡ (numbered n (get_or ns i 0) || seen ns ps n m (get_or ps i 0))
-  unfolding any_of
+  seen_step : (m p i : ℕ) → first_at (numbered p) 0 ns ≡ Some i → seen ns ps n (suc m) p ≡ (numbered n (get_or ns i 0) || seen ns ps n m (get_or ps i 0))
   seen_step m p i e = rw (link_step ns ps p m i e)
 
   seen_end : (p : ℕ) → seen ns ps n 0 p ≡ false
-  unfolding any_of
   seen_end p = rw (link_end ns ps p)
 
 -- c tokens were looked at, none of them n, and p is the parent of the last: what is left of the walk that goes on from s
@@ -60,12 +56,12 @@ module _ (ns ps : List ℕ) (n s k : ℕ) (a : Bool) (first : a ≡ numbered n k
     unfolding in_chain
     walk_end w = let q : 8 - c ≡ 0 = omega arith in went (rw q (seen_end ns ps n p))
 
-    pub walk_stop : (f : Found) → f ≡ first_at (numbered p) 0 ns → f ≡ Nothing → false ≡ in_chain ns ps n k s
+    pub walk_stop : (f : Option ℕ) → f ≡ first_at (numbered p) 0 ns → f ≡ None → false ≡ in_chain ns ps n k s
     unfolding in_chain
     walk_stop f e w = went (seen_none ns ps n (8 - c) p (sym e ∙ w))
 
 -- b says whether the number at i, the next one, is n
-module _ (ns ps : List ℕ) (n s c p : ℕ) (h : WalkLoop ns ps n s c p) (l : c < 8) (f : Found) (e : f ≡ first_at (numbered p) 0 ns) (i : ℕ) (w : f ≡ At i) (b : Bool)
+module _ (ns ps : List ℕ) (n s c p : ℕ) (h : WalkLoop ns ps n s c p) (l : c < 8) (f : Option ℕ) (e : f ≡ first_at (numbered p) 0 ns) (i : ℕ) (w : f ≡ Some i) (b : Bool)
     (next : b ≡ numbered n (get_or ns i 0)) where
   walked : seen ns ps n 7 s ≡ (b || seen ns ps n (8 - (c + 1)) (get_or ps i 0))
   walked = let q : 8 - c ≡ suc (8 - (c + 1)) = omega arith in h.rest ∙ rw (q, next) (seen_step ns ps n (8 - (c + 1)) p i (sym e ∙ w))
@@ -86,7 +82,7 @@ pub ruleset walks = (walk_here, walk_stop, walk_found, walk_step, walk_end, walk
 pub descends_linked : (ts : List Token) (n : TokenNo) (k : Token) (b : Bool) (ns ps : List ℕ)
     → b ≡ descends_in ns ps n.0 k.no.0 k.parent.0 → ns ≡ map token_number ts → ps ≡ map token_parent ts
     → b ≡ descends ts n k
-unfolding descends descends_in in_chain any_of
+unfolding descends descends_in in_chain
 descends_linked ts n k b ns ps h e f =
     h
     ∙ rw

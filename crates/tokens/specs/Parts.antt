@@ -1,7 +1,5 @@
 -- What a call on the tokens leaves of the whole tables. Assumes nothing.
-use Rattle.std.specs.Prelude.{◌≡◌, Bool, true, false, cond, List, ℕ, take, set}
-use Rattle.lists.specs.declared.Found.{Found}
-use Rattle.lists.specs.declared.Found.TheVariants.{At, Nothing}
+use Rattle.std.specs.Prelude.{◌≡◌, Bool, true, false, cond, List, ℕ, take, set, Option, Some, None}
 use Rattle.text.specs.Text.{path_limit, to_text}
 use Rattle.rules.specs.declared.Answer.{Answer}
 use Rattle.rules.specs.declared.Scope.{Scope}
@@ -29,13 +27,13 @@ stored_in rows last i o =
     record { answer = o.answer; tokens = cond o.stored (set rows i o.token) rows; last = cond o.stored o.token.no.0 last }
 
 -- whether a search found a row, and the index of the row: 0 where there is none
-abbrev pub is_found : Found → Bool
-is_found (At i) = true
-is_found Nothing = false
+abbrev pub is_found : Option ℕ → Bool
+is_found (Some i) = true
+is_found None = false
 
-abbrev pub place_of : Found → ℕ
-place_of (At i) = i
-place_of Nothing = 0
+abbrev pub place_of : Option ℕ → ℕ
+place_of (Some i) = i
+place_of None = 0
 
 -- a refusal, which stores no token
 abbrev pub not_stored : ℕ → NewToken

@@ -16,10 +16,8 @@ use super::new_tokens::{is_found, new_token, not_stored, store};
 use super::scope::make_scope;
 use super::{NewToken, TokensOutcome};
 use amount::Cap;
-use lists::Found;
-use rows::{depth_of, find_token, free_token};
-use rules::numbers::{BAD, DEEP, NO_TOKEN, WIDENS};
-use rules::{Mode, Tables, Token, TokenNo, fresh_token};
+use rows::{depth_of, find_row, free_row};
+use rules::{Mode, Refusal, Tables, Token, TokenNo, fresh_token};
 use scopes::{narrows, scope_fits};
 
 // From the parent's row on.
@@ -39,10 +37,10 @@ fn attenuate_in(
 {
     let parent = k.scope;
     if !narrows(prefix, mode, cap, from, until, parent) {
-        return not_stored(WIDENS);
+        return not_stored(Refusal::Widens);
     }
     if 8 <= deep {
-        return not_stored(DEEP);
+        return not_stored(Refusal::Deep);
     }
     let volume = k.volume;
     let no = k.no;
@@ -52,6 +50,7 @@ fn attenuate_in(
 
 // The same as `attenuate_on`, of the parent's row where there is one, its depth, the last token number given, and whether a row of the
 // tokens is free.
+#[tactic(auto, unfolding(crate::specs::Rows::attenuate_found, rules::specs::Scope::scope_fits))]
 pub fn attenuate_row(
     there: bool,
     k: Token,
@@ -67,10 +66,10 @@ pub fn attenuate_row(
     ensures { ((t : Tables) (i : ℕ) (old : Token) → t.last_token ≡ last → find free_token t.tokens ≡ cond free (hit i old) miss → stored_at t i result ≡ attenuate_found t (scope_arg prefix.now mode cap from until) deep (row_if there k)) × HasPrefix prefix.now result }
 {
     if !scope_fits(prefix, cap, from, until) {
-        return not_stored(BAD);
+        return not_stored(Refusal::Bad);
     }
     if !there {
-        return not_stored(NO_TOKEN);
+        return not_stored(Refusal::NoToken);
     }
     attenuate_in(k, deep, last, free, prefix, mode, cap, from, until)
 }
@@ -89,8 +88,8 @@ fn attenuate_at(
 ) -> TokensOutcome
     ensures { (t : Tables) (n : TokenNo) (j : ℕ) → t.tokens ≡ rows → t.last_token ≡ last → token_of n t ≡ cond there (hit j k) miss → on_tokens t result ≡ attenuate_rule n (scope_arg prefix.now mode cap from until) t }
 {
-    let deep = depth_of(rows, k);
-    let f = free_token(rows);
+    let deep = depth_of(&rows, &k);
+    let f = free_row(&rows);
     let free = is_found(f);
     let o = attenuate_row(there, k, deep, last, free, prefix, mode, cap, from, until);
     store(rows, last, f, o)
@@ -110,7 +109,7 @@ pub fn attenuate_on(
 {
     let rows = t.tokens;
     let last = t.last_token;
-    let Found::At(j) = find_token(rows, n) else {
+    let Some(j) = find_row(&rows, n) else {
         let k = fresh_token();
         return attenuate_at(rows, last, false, k, prefix, mode, cap, from, until);
     };

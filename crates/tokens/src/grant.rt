@@ -13,10 +13,8 @@ use super::new_tokens::{is_found, new_token, not_stored, store};
 use super::scope::make_scope;
 use super::{NewToken, TokensOutcome};
 use amount::Cap;
-use lists::Found;
-use rows::{find_volume, free_token, is_open, owned_by};
-use rules::numbers::{BAD, NO_VOLUME, NOT_OWNER, STATE};
-use rules::{Account, Mode, Tables, TokenNo, Volume, VolumeNo};
+use rows::{find_row, free_row, is_open, owned_by};
+use rules::{Account, Mode, Refusal, Tables, TokenNo, Volume, VolumeNo};
 use scopes::scope_fits;
 
 // From the volume's row on.
@@ -34,12 +32,12 @@ fn grant_in(
     requires { is_prefix prefix.now ≡ true }
     ensures { ((t : Tables) (i : ℕ) (old : Token) → t.last_token ≡ last → find free_token t.tokens ≡ cond free (hit i old) miss → stored_at t i result ≡ grant_in t a (scope_arg prefix.now mode cap from until) (hit 0 v)) × HasPrefix prefix.now result }
 {
-    if !owned_by(v, a) {
-        return not_stored(NOT_OWNER);
+    if !owned_by(&v, a) {
+        return not_stored(Refusal::NotOwner);
     }
     let status = v.status;
     if !is_open(status) {
-        return not_stored(STATE);
+        return not_stored(Refusal::State);
     }
     let volume = v.no;
     let scope = make_scope(prefix, mode, cap, from, until);
@@ -47,6 +45,7 @@ fn grant_in(
 }
 
 // The same as `grant_on`, of a table of volumes, the last token number given, and whether a row of the tokens is free.
+#[tactic(auto, unfolding(rules::specs::TokenCalls::grant_rule, rules::specs::Scope::scope_fits, rules::specs::Tables::volume_of))]
 pub fn grant_row(
     volumes: [Volume; 8],
     last: u32,
@@ -62,10 +61,10 @@ pub fn grant_row(
     ensures { ((t : Tables) (i : ℕ) (old : Token) → t.volumes ≡ volumes → t.last_token ≡ last → find free_token t.tokens ≡ cond free (hit i old) miss → stored_at t i result ≡ grant_rule a n (scope_arg prefix.now mode cap from until) t) × HasPrefix prefix.now result }
 {
     if !scope_fits(prefix, cap, from, until) {
-        return not_stored(BAD);
+        return not_stored(Refusal::Bad);
     }
-    let Found::At(j) = find_volume(volumes, n) else {
-        return not_stored(NO_VOLUME);
+    let Some(j) = find_row(&volumes, n) else {
+        return not_stored(Refusal::NoVolume);
     };
     let v = volumes[j];
     grant_in(v, last, free, a, prefix, mode, cap, from, until)
@@ -87,7 +86,7 @@ pub fn grant_on(
     let rows = t.tokens;
     let volumes = t.volumes;
     let last = t.last_token;
-    let f = free_token(rows);
+    let f = free_row(&rows);
     let free = is_found(f);
     let o = grant_row(volumes, last, free, a, n, prefix, mode, cap, from, until);
     store(rows, last, f, o)

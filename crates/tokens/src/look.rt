@@ -9,9 +9,8 @@ ghost use Rattle.rows.specs.Links.{row_if};
 ghost use Rattle.tokens.specs.Rows.{look_found};
 
 use super::new_tokens::{is_found, place_of};
-use rows::{can_read, find_token, in_window, is_entry};
-use rules::numbers::{BAD, MODE, NO_ENTRY, NO_TOKEN, PREFIX, WINDOW};
-use rules::{Answer, Entry, Tables, Token, TokenNo, fresh_entry, refusal, success_with};
+use rows::{can_read, find_row, in_window, is_entry};
+use rules::{Answer, Entry, Refusal, Tables, Token, TokenNo, fresh_entry, refusal, success_with};
 use text::path::is_path;
 
 // The entry's size, and its hash handed back.
@@ -19,7 +18,7 @@ fn look_entry(found: bool, e: Entry) -> Answer
     ensures { (t : Tables) (j : ℕ) → unchanged t result ≡ look_entry t (cond found (hit j e) miss) }
 {
     if !found {
-        return refusal(NO_ENTRY);
+        return refusal(Refusal::NoEntry);
     }
     let hash = e.hash;
     success_with(e.size, hash)
@@ -30,16 +29,16 @@ pub fn look_token(clock: u64, k: Token, found: bool, e: Entry, path: &[u8]) -> A
     ensures { (t : Tables) (j : ℕ) → t.clock ≡ clock → entry_of k.volume path.now t ≡ cond found (hit j e) miss → unchanged t result ≡ look_in t path.now (hit 0 k) }
 {
     let scope = k.scope;
-    if !in_window(clock, scope) {
-        return refusal(WINDOW);
+    if !in_window(clock, &scope) {
+        return refusal(Refusal::Window);
     }
     let mode = scope.mode;
     if !can_read(mode) {
-        return refusal(MODE);
+        return refusal(Refusal::Mode);
     }
     let prefix = scope.prefix;
-    if !text::covers(prefix, path) {
-        return refusal(PREFIX);
+    if !prefix.covers(path) {
+        return refusal(Refusal::Prefix);
     }
     look_entry(found, e)
 }
@@ -49,15 +48,13 @@ pub(crate) fn look_in(clock: u64, k: Token, entries: [Entry; 64], path: &[u8]) -
     ensures { (t : Tables) → t.clock ≡ clock → t.entries ≡ entries → unchanged t result ≡ look_in t path.now (hit 0 k) }
 {
     let n = k.volume;
-    let mut i: usize = 0;
-    while i < 64 {
+    for i in 0..64 {
         if entries[i].volume.0 == n.0 {
             let e = entries[i];
-            if is_entry(e, n, path) {
+            if is_entry(&e, n, path) {
                 return look_token(clock, k, true, e, path);
             }
         }
-        i += 1;
     }
     let none = fresh_entry();
     look_token(clock, k, false, none, path)
@@ -74,10 +71,10 @@ pub(crate) fn look_row(
     ensures { (t : Tables) → t.clock ≡ clock → t.entries ≡ entries → unchanged t result ≡ look_found t path.now (row_if there k) }
 {
     if !is_path(path) {
-        return refusal(BAD);
+        return refusal(Refusal::Bad);
     }
     if !there {
-        return refusal(NO_TOKEN);
+        return refusal(Refusal::NoToken);
     }
     look_in(clock, k, entries, path)
 }
@@ -87,7 +84,7 @@ pub fn look_on(t: Tables, n: TokenNo, path: &[u8]) -> Answer
     ensures { unchanged t result ≡ look_rule n path.now t }
 {
     let rows = t.tokens;
-    let f = find_token(rows, n);
+    let f = find_row(&rows, n);
     let there = is_found(f);
     let i = place_of(f);
     let k = rows[i];

@@ -1,6 +1,7 @@
 // A new token takes the next number and the lowest free row, where there is one.
 ghost use Rattle.std.specs.Prelude.{◌≡◌, cond, ℕ};
 ghost use Rattle.lists.specs.Lists.{first_at, find, hit, miss};
+ghost use Rattle.rules.specs.Numbers.{refusal_number};
 ghost use Rattle.rules.specs.declared.Tables.{Tables};
 ghost use Rattle.rules.specs.declared.Token.{Token};
 ghost use Rattle.rules.specs.Tables.{free_token};
@@ -8,13 +9,11 @@ ghost use Rattle.rules.specs.TokenCalls.{new_token};
 ghost use Rattle.tokens.specs.Parts.{stored_at, stored_in, not_stored, HasScope, is_found, place_of};
 
 use super::{NewToken, TokensOutcome};
-use lists::Found;
-use rules::numbers::{ROOM, SPENT};
-use rules::{Scope, Token, TokenNo, VolumeNo};
+use rules::{Refusal, Scope, Token, TokenNo, VolumeNo};
 
 // A refusal stores no token.
-pub(crate) fn not_stored(n: u32) -> NewToken
-    ensures { result ≡ not_stored n }
+pub(crate) fn not_stored(n: Refusal) -> NewToken
+    ensures { result ≡ not_stored (refusal_number n) }
 {
     let answer = rules::refusal(n);
     let token = rules::fresh_token();
@@ -36,10 +35,10 @@ pub(crate) fn new_token(
     ensures { ((t : Tables) (i : ℕ) (old : Token) → t.last_token ≡ last → find free_token t.tokens ≡ cond free (hit i old) miss → stored_at t i result ≡ new_token t volume parent scope) × HasScope scope result }
 {
     if 65535 <= last {
-        return not_stored(SPENT);
+        return not_stored(Refusal::Spent);
     }
     if !free {
-        return not_stored(ROOM);
+        return not_stored(Refusal::Room);
     }
     let token = Token {
         no: TokenNo(last + 1),
@@ -57,27 +56,27 @@ pub(crate) fn new_token(
 }
 
 // Whether a search found a row.
-pub fn is_found(f: Found) -> bool
+pub fn is_found(f: Option<usize>) -> bool
     ensures { result ≡ is_found f }
 {
-    let Found::At(_) = f else {
+    let Some(_) = f else {
         return false;
     };
     true
 }
 
 // The index of the row that a search found: 0 where there is none.
-pub fn place_of(f: Found) -> usize
+pub fn place_of(f: Option<usize>) -> usize
     ensures { result ≡ place_of f }
 {
-    let Found::At(i) = f else {
+    let Some(i) = f else {
         return 0;
     };
     i
 }
 
 // The token table with the new token, where one is stored, and its number is the last one given. `f` is the first free row.
-pub(crate) fn store(rows: [Token; 32], last: u32, f: Found, o: NewToken) -> TokensOutcome
+pub(crate) fn store(rows: [Token; 32], last: u32, f: Option<usize>, o: NewToken) -> TokensOutcome
     requires { f ≡ first_at free_token 0 rows }
     ensures { result ≡ stored_in rows last (place_of f) o }
 {

@@ -1,5 +1,7 @@
 -- What a replay answers, and the buffer that it leaves: the buffer is too short, the journal has a fault at its start, or its records are read.
 -- Assumes nothing.
+use Rattle.std.specs.Prelude.{Result, Ok, Err}
+use Rattle.transcripts.specs.declared.ReplayError.TheVariants as error
 use mathlib.Core.Path.{◌≡◌, refl, sym, ◌∙◌, ap}
 use mathlib.Core.Bool.{Bool, true, false, cond}
 use mathlib.Core.List.{List, [], ◌∷◌, ◌++◌}
@@ -16,12 +18,11 @@ use lib.Seq.{take_all}
 use Rattle.rules.specs.declared.Desk.{Desk}
 use Rattle.rules.specs.Fresh.{fresh_desk}
 use Rattle.rules.specs.Calls.{run}
-use Rattle.journal.specs.declared.Written.{Written}
 use Rattle.journal.proofs.FieldLaws.{bytes_drop}
 use Rattle.journal.specs.declared.Version.{Version}
-use Rattle.journal.specs.declared.Start.{Start}
-use Rattle.journal.specs.declared.Start.TheVariants.{Records, Fault}
-use Rattle.journal.specs.Journal.{journal_most, TOO_LARGE, VERSION, stop, Contents, stopped, records, contents, first_byte, start_of}
+use Rattle.journal.specs.declared.errors.JournalError.{JournalError}
+use Rattle.journal.specs.declared.errors.JournalError.TheVariants as journal_error
+use Rattle.journal.specs.Journal.{error_number, journal_most, stop, Contents, stopped, records, contents, first_byte, start_of}
 use Rattle.journal.proofs.Theorems.{start_gives_the_contents}
 use Rattle.journal.proofs.FieldLaws.{bytes_known}
 use Rattle.transcripts.specs.declared.Replayed.{Replayed}
@@ -36,17 +37,17 @@ use Rattle.transcripts.proofs.ReplayLaws.{whole_of}
 
 -- ---- the journal's start
 
-within_most : (l : List ℕ) (v : Version) → start_of l ≡ Records v → length l ≤ journal_most
+within_most : (l : List ℕ) (v : Version) → start_of l ≡ Ok v → length l ≤ journal_most
 unfolding start_of
 within_most l v e = by (ltb journal_most (length l)) refl e
   where
-    by : (t : Bool) → ltb journal_most (length l) ≡ t → cond t (Fault TOO_LARGE) (first_byte l) ≡ Records v → length l ≤ journal_most
+    by : (t : Bool) → ltb journal_most (length l) ≡ t → cond t (Err journal_error.TooLarge) (first_byte l) ≡ Ok v → length l ≤ journal_most
     by true f g = absurd (let z : ◌≡◌ {A = ℕ} 0 1 = cc in omega arith)
     by false f g = ltb-false journal_most (length l) f
 
-pub some_there : (l : List ℕ) (x : Start) (v : Version) → x ≡ start_of l → x ≡ Records v → 1 ≤ length l
+pub some_there : (l : List ℕ) (x : Result Version JournalError) (v : Version) → x ≡ start_of l → x ≡ Ok v → 1 ≤ length l
 unfolding start_of
-some_there [] x v e z = absurd (let q : Fault VERSION ≡ Records v = sym e ∙ z in let y : ◌≡◌ {A = ℕ} 0 1 = cc in omega arith)
+some_there [] x v e z = absurd (let q : Err journal_error.Version ≡ Ok v = sym e ∙ z in let y : ◌≡◌ {A = ℕ} 0 1 = cc in omega arith)
 some_there (b ∷ l) x v e z = omega arith
 
 -- the bytes after the version, as the code has them
@@ -64,14 +65,10 @@ rest_of l = printed_from 0 (fresh_desk program_rate) (contents l)
 abbrev start_desk : Desk
 start_desk = fresh_desk program_rate
 
-pub none_made : (number len : ℕ) (d : Desk) → d ≡ start_desk
-    → ◌≡◌ {A = Replayed} (record { number = number; len = len; desk = d }) (record { number = number; len = len; desk = start_desk })
-none_made number len d e = rw e
-
 module _ (l out₀ : List ℕ) (room : ℕ) (er : room ≡ room_for (length l)) where
-  pub short_answer : (r : Replayed) → length out₀ < room → r ≡ record { number = 12; len = 0; desk = start_desk } → r ≡ replayed_of l out₀
+  pub short_answer : (d : Desk) → d ≡ start_desk → length out₀ < room → record { written = Err error.Room; desk = d } ≡ replayed_of l out₀
   unfolding replayed_of
-  short_answer r h e = rw (← er, lt-ltb (length out₀) room h) e
+  short_answer d q h = rw (← er, lt-ltb (length out₀) room h, q)
 
   pub short_buffer : length out₀ < room → out₀ ≡ buffer_of l out₀
   unfolding buffer_of
@@ -83,7 +80,7 @@ module _ (l out₀ : List ℕ) (room : ℕ) (er : room ≡ room_for (length l)) 
 
     -- the whole transcript stands at the front
     module _ (len : ℕ) (out : List ℕ) (w : Wrote 0 (transcript l) out₀ len out) where
-      done_answer : record { number = 0; len = len; desk = desk_after l } ≡ replayed_of l out₀
+      done_answer : record { written = Ok len; desk = desk_after l } ≡ replayed_of l out₀
       unfolding replayed_of
       done_answer = let e : len ≡ length (transcript l) = w.place ∙ zero-add (length (transcript l)) in rw (← er, le-ltb (length out₀) room h, e)
 
@@ -107,10 +104,10 @@ module _ (l out₀ : List ℕ) (room : ℕ) (er : room ≡ room_for (length l)) 
       rest_wrote len out v = rw parted (wrote_next 0 first_line (rest_of l) out₀ at m w both_room len out v)
 
       -- x is what the start says: a fault, or the version of the records
-      module _ (x : Start) (ex : x ≡ start_of l) where
-        module _ (f : ℕ) (n : x ≡ Fault f) where
+      module _ (x : Result Version JournalError) (ex : x ≡ start_of l) where
+        module _ (cause : JournalError) (n : x ≡ Err cause) (f : ℕ) (q : f ≡ error_number cause) where
           none_held : contents l ≡ stopped f
-          none_held = start_gives_the_contents l ∙ rw (← ex, n)
+          none_held = start_gives_the_contents l ∙ rw (← ex, n, q)
 
           rest_stops : rest_of l ≡ last_line 0 (stop f)
           rest_stops = ap (printed_from 0 start_desk) none_held ∙ from_stop 0 start_desk f
@@ -123,13 +120,13 @@ module _ (l out₀ : List ℕ) (room : ℕ) (er : room ≡ room_for (length l)) 
           fault_room = rw (← rest_stops) rest_room
 
           module _ (len : ℕ) (out : List ℕ) (v : Wrote at (last_line 0 (stop f)) m len out) where
-            pub fault_answer : (r : Replayed) → r ≡ record { number = 0; len = len; desk = start_desk } → r ≡ replayed_of l out₀
-            fault_answer r e = e ∙ rw desk_kept (done_answer len out (rest_wrote len out (rw rest_stops v)))
+            pub fault_answer : (d : Desk) → d ≡ start_desk → record { written = Ok len; desk = d } ≡ replayed_of l out₀
+            fault_answer d e = rw (e, desk_kept) (done_answer len out (rest_wrote len out (rw rest_stops v)))
 
             pub fault_buffer : out ≡ buffer_of l out₀
             fault_buffer = done_buffer len out (rest_wrote len out (rw rest_stops v))
 
-        module _ (v : Version) (z : x ≡ Records v) where
+        module _ (v : Version) (z : x ≡ Ok v) where
           held : contents l ≡ records v (on_records l)
           held = start_gives_the_contents l ∙ rw (← ex, z, all_records l)
 
@@ -151,11 +148,11 @@ module _ (l out₀ : List ℕ) (room : ℕ) (er : room ≡ room_for (length l)) 
             desk_left_lem = k.desk ∙ ap (λ (c : Contents). run c.calls start_desk) (sym held)
 
             pub read_answer : r ≡ replayed_of l out₀
-            read_answer = let e : r ≡ record { number = 0; len = r.len; desk = desk_after l } = rw (k.number, desk_left_lem) in
-                e ∙ done_answer r.len out (rest_wrote r.len out (rw rest_reads k.wrote))
+            read_answer = let e : r ≡ record { written = Ok k.len; desk = desk_after l } = rw (k.written, desk_left_lem) in
+                e ∙ done_answer k.len out (rest_wrote k.len out (rw rest_reads k.wrote))
 
             pub read_buffer : out ≡ buffer_of l out₀
-            read_buffer = done_buffer r.len out (rest_wrote r.len out (rw rest_reads k.wrote))
+            read_buffer = done_buffer k.len out (rest_wrote k.len out (rw rest_reads k.wrote))
 
 pub ruleset short = (short_answer, short_buffer)
 
@@ -165,11 +162,10 @@ pub ruleset read = (records_bytes, records_few, records_room, read_answer, read_
 
 -- ---- the answer without the desk
 
-told_by : (short : Bool) (x y : Replayed) (p q : Written) → record { number = x.number; len = x.len } ≡ p → record { number = y.number; len = y.len } ≡ q
-    → record { number = (cond short x y).number; len = (cond short x y).len } ≡ cond short p q
-told_by true x y p q e f = e
-told_by false x y p q e f = f
+told_by : (short : Bool) (x y : Replayed) → (cond short x y).written ≡ cond short x.written y.written
+told_by true x y = refl
+told_by false x y = refl
 
-pub answer_told : (l out₀ : List ℕ) (r : Replayed) → r ≡ replayed_of l out₀ → record { number = r.number; len = r.len } ≡ answer_of l out₀
+pub answer_told : (l out₀ : List ℕ) (r : Replayed) → r ≡ replayed_of l out₀ → r.written ≡ answer_of l out₀
 unfolding replayed_of answer_of
-answer_told l out₀ r e = rw e (told_by (too_short l out₀) _ _ _ _ refl refl)
+answer_told l out₀ r e = rw e (told_by (too_short l out₀) _ _)

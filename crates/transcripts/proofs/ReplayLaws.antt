@@ -1,6 +1,7 @@
 -- The loop of a replay: its invariant, and the laws of its start, its end and its step. What is still to be printed, over the buffer from where the
 -- replay has come, gives the whole; the calls that are left lead from the tables and the slots to the desk after all of them. This desk is one that
 -- calls reach, so that each call is answered by its rule. Assumes nothing.
+use Rattle.std.specs.Prelude.{Ok}
 use mathlib.Core.Path.{◌≡◌, refl, sym, ◌∙◌, ap}
 use mathlib.Core.Bool.{true}
 use mathlib.Core.List.{List, [], ◌++◌}
@@ -34,7 +35,8 @@ use Rattle.journal.specs.declared.Record.{Record}
 use Rattle.journal.specs.declared.Version.{Version}
 use Rattle.journal.specs.Records.{v01}
 use Rattle.journal.specs.Places.{call_at}
-use Rattle.journal.specs.Journal.{Ending, end, stop, Contents, stopped, ended, after, records}
+use Rattle.journal.specs.declared.errors.JournalError.{JournalError}
+use Rattle.journal.specs.Journal.{error_number, Ending, end, stop, Contents, stopped, ended, after, records}
 use Rattle.lists.specs.Bytes.{over}
 use Rattle.journal_calls.specs.declared.Group.{Group}
 use Rattle.journal_calls.specs.declared.Group.TheVariants as group
@@ -112,13 +114,14 @@ module _ (v : Version) (l out₀ : List ℕ) (start : ℕ) where
       last_room : at + length (last_line n e) ≤ length out
       last_room = rw (← at_last) (omega (arith, h.ends, h.room, h.size))
 
-      last_replays : (len : ℕ) (out' : List ℕ) (r : Replayed) → Wrote at (last_line n e) out len out' → r ≡ record { number = 0; len = len; desk = desk_of t slots }
+      last_replays : (len : ℕ) (out' : List ℕ) (r : Replayed) → Wrote at (last_line n e) out len out' → r ≡ record { written = Ok len; desk = desk_of t slots }
           → Replays start (records v l) out₀ r out'
       unfolding run
       last_replays len out' r w er =
           rw er
           (record {
-            number = refl;
+            len = len;
+            written = refl;
             wrote = record { place = w.place ∙ rw (← at_last) h.ends; buffer = w.buffer ∙ rw (← at_last) h.left };
             desk = rw f at h.desk;
           })
@@ -143,19 +146,19 @@ module _ (v : Version) (l out₀ : List ℕ) (start : ℕ) where
         end_room = rw counted (last_room end at_end)
 
         pub end_replays : (len : ℕ) (out' : List ℕ) (r : Replayed) → Wrote at (last_line (n + 1 - 1) end) out len out'
-            → r ≡ record { number = 0; len = len; desk = desk_of t slots } → Replays start (records v l) out₀ r out'
+            → r ≡ record { written = Ok len; desk = desk_of t slots } → Replays start (records v l) out₀ r out'
         end_replays len out' r f = last_replays end at_end len out' r (rw counted at f)
 
       -- and is a fault
-      module _ (number : ℕ) (w : x.group ≡ group.Stop number) where
+      module _ (fault : JournalError) (w : x.group ≡ group.Stop fault) (number : ℕ) (q : number ≡ error_number fault) where
         at_stop : records v (drop p l) ≡ stopped number
-        at_stop = item_stop v l h.bytes p x e.same number w
+        at_stop = rw q (item_stop v l h.bytes p x e.same fault w)
 
         pub stop_room : at + length (last_line (n + 1 - 1) (stop number)) ≤ length out
         stop_room = rw counted (last_room (stop number) at_stop)
 
         pub stop_replays : (len : ℕ) (out' : List ℕ) (r : Replayed) → Wrote at (last_line (n + 1 - 1) (stop number)) out len out'
-            → r ≡ record { number = 0; len = len; desk = desk_of t slots } → Replays start (records v l) out₀ r out'
+            → r ≡ record { written = Ok len; desk = desk_of t slots } → Replays start (records v l) out₀ r out'
         stop_replays len out' r f = last_replays (stop number) at_stop len out' r (rw counted at f)
 
       -- and is a record
@@ -255,7 +258,7 @@ pub tables_made : (l : List ℕ) (t : Tables) (h : Held) (relays : List Relay) (
 tables_made l t h relays tokens entries e f = rw (e, f)
 
 pub desk_made : (len : ℕ) (t t₀ : Tables) (slots slots₀ : List Session) → t ≡ t₀ → slots ≡ slots₀
-    → ◌≡◌ {A = Replayed} (record { number = 0; len = len; desk = desk_of t slots }) (record { number = 0; len = len; desk = desk_of t₀ slots₀ })
+    → ◌≡◌ {A = Replayed} (record { written = Ok len; desk = desk_of t slots }) (record { written = Ok len; desk = desk_of t₀ slots₀ })
 desk_made len t t₀ slots slots₀ e f = rw (e, f)
 
 pub ruleset ends = (end_room, end_replays)

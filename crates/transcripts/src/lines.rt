@@ -13,13 +13,9 @@ fn put_bytes(out: &mut [u8], at: usize, s: &[u8]) -> usize
     requires { at + length s.now ≤ length out.old }
     ensures { Wrote at s.now out.old result out.new }
 {
-    let mut i = 0;
-    while i < s.len() {
-        let p = at + i;
-        out[p] = s[i];
-        i += 1;
-    }
-    at + s.len()
+    let end = at + s.len();
+    out[at..end].copy_from_slice(s);
+    end
 }
 
 // The digits of a number from a place on.
@@ -31,6 +27,7 @@ fn put_decimal(out: &mut [u8], at: usize, n: u64) -> usize
 }
 
 // A number, and the byte after it.
+#[tactic(auto, unfolding(printed::specs::Transcript::numeral))]
 fn put_numeral(out: &mut [u8], at: usize, n: u64, mark: u8) -> usize
     requires { at + length (numeral n mark) ≤ length out.old }
     ensures { Wrote at (numeral n mark) out.old result out.new }
@@ -49,6 +46,7 @@ pub(crate) fn put_first_line(out: &mut [u8], at: usize) -> usize
 }
 
 // The line of a record.
+#[tactic(auto, unfolding(printed::specs::Transcript::record_line))]
 pub(crate) fn put_record_line(out: &mut [u8], at: usize, place: u64, a: Answer) -> usize
     requires { at + length (record_line place a) ≤ length out.old }
     ensures { Wrote at (record_line place a) out.old result out.new }
@@ -59,6 +57,7 @@ pub(crate) fn put_record_line(out: &mut [u8], at: usize, place: u64, a: Answer) 
 }
 
 // The last line, at a fault.
+#[tactic(auto, unfolding(printed::specs::Transcript::last_line))]
 pub(crate) fn put_stop_line(out: &mut [u8], at: usize, read: u64, number: u32) -> usize
     requires { at + length (last_line read (Ending.stop number)) ≤ length out.old }
     ensures { Wrote at (last_line read (Ending.stop number)) out.old result out.new }
@@ -69,6 +68,7 @@ pub(crate) fn put_stop_line(out: &mut [u8], at: usize, read: u64, number: u32) -
 }
 
 // The last line, where every record was read.
+#[tactic(auto, unfolding(printed::specs::Transcript::last_line))]
 pub(crate) fn put_end_line(out: &mut [u8], at: usize, read: u64) -> usize
     requires { at + length (last_line read Ending.end) ≤ length out.old }
     ensures { Wrote at (last_line read Ending.end) out.old result out.new }

@@ -49,14 +49,13 @@ fn done(
     slots: [KeptSession; 4],
     relays: [Relay; 32],
 ) -> Replayed
-    ensures { result ≡ record { number = 0; len = len; desk = desk_of (held_tables journal.now t h relays) (slots_in journal.now slots) } }
+    ensures { result ≡ record { written = Ok len; desk = desk_of (held_tables journal.now t h relays) (slots_in journal.now slots) } }
 {
     let tables = tables_in(journal, t, h, relays);
     let sessions = slots_in(journal, slots);
     let desk = Desk { tables, sessions };
     Replayed {
-        number: 0,
-        len,
+        written: Ok(len),
         desk,
     }
 }
@@ -86,10 +85,10 @@ pub(crate) fn replay_records(v: Version, journal: &[u8], out: &mut [u8], start: 
             Group::End => {
                 return done(journal, put_end_line(out, at, n - 1), t, h, slots, relays);
             }
-            Group::Stop(number) => {
+            Group::Stop(error) => {
                 return done(
                     journal,
-                    put_stop_line(out, at, n - 1, number),
+                    put_stop_line(out, at, n - 1, error.number()),
                     t,
                     h,
                     slots,
@@ -128,7 +127,7 @@ pub(crate) fn replay_records(v: Version, journal: &[u8], out: &mut [u8], start: 
                 let after = o.session;
                 slots[i] = after;
             }
-            Group::NoSlot => at = put_record_line(out, at, n, rules::refusal(BAD)),
+            Group::NoSlot => at = put_record_line(out, at, n, rules::numbered_refusal(BAD)),
             Group::Look => {
                 at = put_record_line(out, at, n, look_call(journal, from, t, h, item));
             }

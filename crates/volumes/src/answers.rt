@@ -1,14 +1,15 @@
 // The answers of create, deposit and undelete: a refusal, which leaves all as it came, and success.
 ghost use Rattle.std.specs.Prelude.{◌≡◌};
+ghost use Rattle.rules.specs.Numbers.{refusal_number};
 ghost use Rattle.rules.specs.Outcome.{refused, accepted};
 ghost use Rattle.rules.specs.Tables.{with_volumes, with_last_volume, with_deposits};
 ghost use Rattle.volumes.specs.Parts.{on_volumes};
 
 use super::VolumesOutcome;
-use rules::{Tables, Volume};
+use rules::{Refusal, Tables, Volume};
 
-pub(crate) fn refuse(t: Tables, n: u32) -> VolumesOutcome
-    ensures { on_volumes t result ≡ refused t n }
+pub(crate) fn refuse(t: Tables, n: Refusal) -> VolumesOutcome
+    ensures { on_volumes t result ≡ refused t (refusal_number n) }
 {
     let answer = rules::refusal(n);
     let volumes = t.volumes;

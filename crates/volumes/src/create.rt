@@ -11,20 +11,17 @@ ghost use Rattle.volumes.specs.Parts.{on_volumes};
 use super::VolumesOutcome;
 use super::answers::{accept, refuse};
 use amount::Cap;
-use lists::Found;
-use rows::{cap_fits, free_volume, name_taken, shards_fit};
-use rules::numbers::{BAD, NAME_TAKEN, ROOM, SPENT};
-use rules::{Account, Status, Tables, Volume, VolumeNo};
-use text::name::{is_name, to_name};
+use rows::{cap_fits, free_row, name_taken, shards_fit};
+use rules::{Account, Refusal, Status, Tables, Volume, VolumeNo};
+use text::name::{Name, is_name};
 
 fn make_volume(n: u32, a: Account, name: &[u8], k: u8, m: u8, cap: Cap) -> Volume
     ensures { result ≡ new_volume n a (take name_limit name.now) k m cap }
 {
-    let text = to_name(name);
     Volume {
         no: VolumeNo(n),
         owner: a,
-        name: text,
+        name: Name::truncated(name),
         k,
         m,
         cap,
@@ -37,6 +34,7 @@ fn make_volume(n: u32, a: Account, name: &[u8], k: u8, m: u8, cap: Cap) -> Volum
 }
 
 // The new volume takes the row, and its number is the last one given.
+#[tactic(auto, unfolding(rules::specs::VolumeCalls::create_in))]
 fn store_volume(t: Tables, i: usize, v: Volume) -> VolumesOutcome
     requires { i < 8 }
     ensures { on_volumes t result ≡ create_in t v (hit i v) }
@@ -51,8 +49,8 @@ fn place_volume(t: Tables, v: Volume) -> VolumesOutcome
     ensures { on_volumes t result ≡ create_in t v (find free_volume t.volumes) }
 {
     let rows = t.volumes;
-    let Found::At(i) = free_volume(rows) else {
-        return refuse(t, ROOM);
+    let Some(i) = free_row(&rows) else {
+        return refuse(t, Refusal::Room);
     };
     store_volume(t, i, v)
 }
@@ -70,19 +68,20 @@ fn create_fits(name: &[u8], k: u8, m: u8, cap: Cap) -> bool
 }
 
 // An account makes a volume of k data shards and m parity shards for each object.
+#[tactic(auto, unfolding(rules::specs::VolumeCalls::create_rule))]
 pub fn create_on(t: Tables, a: Account, name: &[u8], k: u8, m: u8, cap: Cap) -> VolumesOutcome
     ensures { on_volumes t result ≡ create_rule a name.now k m cap t }
 {
     if !create_fits(name, k, m, cap) {
-        return refuse(t, BAD);
+        return refuse(t, Refusal::Bad);
     }
     let rows = t.volumes;
-    if name_taken(rows, a, name) {
-        return refuse(t, NAME_TAKEN);
+    if name_taken(&rows, a, name) {
+        return refuse(t, Refusal::NameTaken);
     }
     let last = t.last_volume;
     if 65535 <= last {
-        return refuse(t, SPENT);
+        return refuse(t, Refusal::Spent);
     }
     let v = make_volume(last + 1, a, name, k, m, cap);
     place_volume(t, v)

@@ -1,6 +1,7 @@
 // Delete.
 ghost use Rattle.std.specs.Prelude.{◌≡◌, ◌&&◌, ◌<◌, get_or};
 ghost use Rattle.lists.specs.Lists.{hit};
+ghost use Rattle.rules.specs.Numbers.{refusal_number};
 ghost use Rattle.rules.specs.Fresh.{fresh_token};
 ghost use Rattle.rules.specs.Outcome.{refused, accepted};
 ghost use Rattle.rules.specs.Tables.{given, numbered, with_volumes, with_tokens, cleared};
@@ -10,13 +11,11 @@ ghost use Rattle.volumes.specs.Parts.{on_delete};
 
 use super::DeleteOutcome;
 use super::status::with_status;
-use lists::Found;
-use rows::{find_volume, is_number, is_open, owned_by};
-use rules::numbers::{NO_VOLUME, NOT_OWNER, STATE};
-use rules::{Account, Status, Tables, Token, Volume, VolumeNo};
+use rows::{find_row, is_number, is_open, owned_by};
+use rules::{Account, Refusal, Status, Tables, Token, Volume, VolumeNo};
 
-fn refuse(t: Tables, n: u32) -> DeleteOutcome
-    ensures { on_delete t result ≡ refused t n }
+fn refuse(t: Tables, n: Refusal) -> DeleteOutcome
+    ensures { on_delete t result ≡ refused t (refusal_number n) }
 {
     let answer = rules::refusal(n);
     let volumes = t.volumes;
@@ -55,17 +54,16 @@ fn drop_tokens(rows: [Token; 32], n: VolumeNo) -> [Token; 32]
     ensures { result ≡ cleared (is_token_of n) fresh_token rows }
 {
     let mut next = rows;
-    let mut i: usize = 0;
-    while i < 32 {
+    for i in 0..32 {
         if is_token_of(n, rows[i].no.0, rows[i].volume.0) {
             next[i] = rules::fresh_token();
         }
-        i += 1;
     }
     next
 }
 
 // From the volume's row on.
+#[tactic(auto, unfolding(rules::specs::VolumeCalls::delete_in))]
 fn delete_at(t: Tables, a: Account, i: usize) -> DeleteOutcome
     requires { i < 8 }
     ensures { on_delete t result ≡ delete_in t a (hit i (get_or t.volumes i blank_volume)) }
@@ -74,11 +72,11 @@ fn delete_at(t: Tables, a: Account, i: usize) -> DeleteOutcome
     let v = rows[i];
     let status = v.status;
     let no = v.no;
-    if !owned_by(v, a) {
-        return refuse(t, NOT_OWNER);
+    if !owned_by(&v, a) {
+        return refuse(t, Refusal::NotOwner);
     }
     if !is_open(status) {
-        return refuse(t, STATE);
+        return refuse(t, Refusal::State);
     }
     rows[i] = with_status(v, Status::Deleted, v.grace, t.clock);
     let tokens = t.tokens;
@@ -90,8 +88,8 @@ pub fn delete_on(t: Tables, a: Account, n: VolumeNo) -> DeleteOutcome
     ensures { on_delete t result ≡ delete_rule a n t }
 {
     let rows = t.volumes;
-    let Found::At(i) = find_volume(rows, n) else {
-        return refuse(t, NO_VOLUME);
+    let Some(i) = find_row(&rows, n) else {
+        return refuse(t, Refusal::NoVolume);
     };
     delete_at(t, a, i)
 }

@@ -7,10 +7,8 @@ ghost use Rattle.volumes.specs.Parts.{on_volumes};
 
 use super::VolumesOutcome;
 use super::answers::{accept, refuse};
-use lists::Found;
-use rows::{find_volume, is_open, passes};
-use rules::numbers::{NO_VOLUME, STATE, TOO_MUCH};
-use rules::{Tables, Volume, VolumeNo};
+use rows::{find_row, is_open, passes};
+use rules::{Refusal, Tables, Volume, VolumeNo};
 
 // The balance would be above 10^15, or all deposits ever above 10^18.
 fn too_much(t: Tables, v: Volume, coins: u64) -> bool
@@ -23,6 +21,7 @@ fn too_much(t: Tables, v: Volume, coins: u64) -> bool
 }
 
 // From the volume's row on.
+#[tactic(auto, unfolding(rules::specs::VolumeCalls::deposit_in))]
 fn deposit_at(t: Tables, i: usize, coins: u64) -> VolumesOutcome
     requires { i < 8 }
     ensures { on_volumes t result ≡ deposit_in t coins (hit i (get_or t.volumes i blank_volume)) }
@@ -31,10 +30,10 @@ fn deposit_at(t: Tables, i: usize, coins: u64) -> VolumesOutcome
     let mut v = rows[i];
     let status = v.status;
     if !is_open(status) {
-        return refuse(t, STATE);
+        return refuse(t, Refusal::State);
     }
     if too_much(t, v, coins) {
-        return refuse(t, TOO_MUCH);
+        return refuse(t, Refusal::TooMuch);
     }
     v.balance = v.balance + coins;
     rows[i] = v;
@@ -47,8 +46,8 @@ pub fn deposit_on(t: Tables, n: VolumeNo, coins: u64) -> VolumesOutcome
     ensures { on_volumes t result ≡ deposit_rule n coins t }
 {
     let rows = t.volumes;
-    let Found::At(i) = find_volume(rows, n) else {
-        return refuse(t, NO_VOLUME);
+    let Some(i) = find_row(&rows, n) else {
+        return refuse(t, Refusal::NoVolume);
     };
     deposit_at(t, i, coins)
 }

@@ -1,5 +1,5 @@
 -- Laws of the quotient rounded up, as code works it out: the whole quotient, and one more where there is a remainder. Assumes nothing.
-use Rattle.std.specs.Prelude.{◌≡◌, ℕ, ◌+◌, ◌-◌, ◌*◌, ◌/◌, ◌%◌, ◌<◌, ◌≤◌, eqb}
+use Rattle.std.specs.Prelude.{◌≡◌, ℕ, ◌+◌, ◌-◌, ◌*◌, ◌/◌, ◌%◌, ◌<◌, ◌≤◌, eqb, min}
 use Rattle.std.proofs.Common.{ap, sym, ◌∙◌, ⊎_elim, mod-lt, div-add-mod', div-le_self, le-mul_of_pos_right, arith, Fits, eqb-true}
 use Rattle.std.proofs.Math.Nat.{div-zero, div-eq_of_lt, div-eq-sub-div, add-mul-div_right}
 use Rattle.std.specs.Int.{w64}
@@ -37,6 +37,14 @@ module _ (n d : ℕ) (some : d ≡ 0 → ⊥) where
   pub ceil_fits : Fits w64 n → (n % d ≡ 0 → ⊥) → Fits w64 (n / d + 1)
   ceil_fits b e = record { fits = omega (arith, b.fits, div-add-mod' n d, le-mul_of_pos_right (n / d) above) }
 
+  -- the whole quotient, and one more where something is left
+  pub ceil_rounded : n / d + min 1 (n % d) ≡ ceil_div n d
+  ceil_rounded =
+      ⊎_elim
+      (λ e. omega (arith, eqb-true (n % d) 0 e, ceil_whole (eqb-true (n % d) 0 e)))
+      (λ e. omega (arith, eqb-false (n % d) 0 e, ceil_more (eqb-false (n % d) 0 e)))
+      (pass_or_fail (eqb (n % d) 0))
+
   -- rounded up it is at most one more
   pub ceil_most : ceil_div n d ≤ n + 1
   ceil_most =
@@ -45,4 +53,4 @@ module _ (n d : ℕ) (some : d ≡ 0 → ⊥) where
       (λ e. omega (arith, ceil_more (eqb-false (n % d) 0 e), div-le_self n d))
       (pass_or_fail (eqb (n % d) 0))
 
-pub ruleset ceils = (ceil_none, ceil_whole, ceil_more, ceil_fits)
+pub ruleset ceils = (ceil_none, ceil_rounded, ceil_whole, ceil_more, ceil_fits)

@@ -20,13 +20,11 @@ or_fresh p z x = cond (p x) z x
 -- what went is among the rows that were kept of it
 module _ {A : Type 0} (p : A → Bool) where
   keep_cond : (q : A → Bool) (b : Bool) (x : A) (l : List A) → any_of q (cond b (x ∷ l) l) ≡ false → (b ≡ true → q x ≡ false) × (any_of q l ≡ false)
-  unfolding any_of
   keep_cond q true x l e = (λ t. or_left (q x) (any_of q l) e, or_right (q x) (any_of q l) e)
   keep_cond q false x l e = (λ t. absurd (false≢true t), e)
 
   pub none_kept : (q : A → Bool) (l : List A) (j : ℕ) (d : A) → any_of q (keep p l) ≡ false → j < length l → p (get_or l j d) ≡ true
       → q (get_or l j d) ≡ false
-  unfolding keep
   none_kept q [] j d e h t = absurd (not-suc-le-zero h)
   none_kept q (x ∷ xs) zero d e h t = (keep_cond q (p x) x (keep p xs) e).0 t
   none_kept q (x ∷ xs) (suc j) d e h t = none_kept q xs j d (keep_cond q (p x) x (keep p xs) e).1 (le_of_suc-le-suc h) t
@@ -54,7 +52,7 @@ module _ {A : Type 0} (p : A → Bool) (z : A) where
   none_or_fresh false x e f = e
 
   pub none_cleared : (l : List A) → p z ≡ false → any_of p (cleared p z l) ≡ false
-  unfolding any_of cleared
+  unfolding cleared
   none_cleared [] f = refl
   none_cleared (x ∷ xs) f = or_none (none_or_fresh (p x) x refl f) (none_cleared xs f)
 
@@ -65,7 +63,7 @@ module _ {A : Type 0} (p : A → Bool) (z : A) where
 
   pub all_cleared : (q : A → Bool) (l : List A) (d : A) → q z ≡ true → ((j : ℕ) → j < length l → p (get_or l j d) ≡ false → q (get_or l j d) ≡ true)
       → all_of q (cleared p z l) ≡ true
-  unfolding all_of cleared
+  unfolding cleared
   all_cleared q [] d e h = refl
   all_cleared q (x ∷ xs) d e h =
       and_both (all_or_fresh q (p x) x e (h 0 (omega arith))) (all_cleared q xs d e (λ j k. h (suc j) (omega arith)))
@@ -127,7 +125,7 @@ module _ {A : Type 0} (p : A → Bool) (z : A) where
   sum_or_fresh f false x l e = refl
 
   pub sum_cleared : (f : A → ℕ) (l : List A) → f z ≡ 0 → sum_of f (cleared p z l) + sum_of f (keep p l) ≡ sum_of f l
-  unfolding sum_of cleared keep
+  unfolding sum_of cleared
   sum_cleared f [] e = refl
   sum_cleared f (x ∷ xs) e = omega (arith, sum_or_fresh f (p x) x (keep p xs) e, sum_cleared f xs e)
 
@@ -139,6 +137,6 @@ module _ {A : Type 0} (p : A → Bool) (z : A) where
   count_or_fresh q false x l e = refl
 
   pub count_cleared : (q : A → Bool) (l : List A) → q z ≡ false → count_if q (cleared p z l) + count_if q (keep p l) ≡ count_if q l
-  unfolding count_if cleared keep
+  unfolding count_if cleared
   count_cleared q [] e = refl
   count_cleared q (x ∷ xs) e = omega (arith, count_or_fresh q (p x) x (keep p xs) e, count_cleared q xs e)

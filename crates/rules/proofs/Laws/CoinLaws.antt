@@ -2,7 +2,7 @@
 -- It holds of every list of calls, and the desks need not be sound for it: no volume pays more than it has. Assumes nothing.
 use Rattle.std.specs.Prelude.{◌≡◌, refl, true, false, cond, List, [], ◌∷◌, ℕ, ◌+◌, eqb, leb}
 use Rattle.std.proofs.Common.{arith}
-use Rattle.lists.specs.Lists.{hit, keep, sum_of}
+use Rattle.lists.specs.Lists.{hit, sum_of}
 use Rattle.lists.specs.SearchLaws.{row_passes}
 use Rattle.rules.specs.declared.VolumeNo.{VolumeNo}
 use Rattle.rules.specs.declared.Answer.{Answer}
@@ -99,7 +99,7 @@ deposits_from (c ∷ cs) d = omega (arith, (step_books c d).deposited, deposits_
 
 -- from a fresh desk: it holds no coins
 fresh_live : (rate : ℕ) → live_balances (fresh_desk rate).tables ≡ 0
-unfolding live_balances keep sum_of
+unfolding live_balances sum_of
 fresh_live rate = refl
 
 module _ (rate : ℕ) (cs : List Call) where

@@ -9,7 +9,7 @@ use Rattle.lists.specs.Bytes.{same_bytes}
 use Rattle.lists.specs.BoolLaws.{pass_or_fail}
 use Rattle.lists.specs.SearchLaws.{miss_hit}
 use Rattle.lists.specs.RowLaws.{clash_map}
-use Rattle.text.specs.declared.name.Name.{Name}
+use Rattle.text.specs.Text.{Name}
 use Rattle.text.specs.Text.{name_bytes}
 use Rattle.rules.specs.declared.VolumeNo.{VolumeNo}
 use Rattle.rules.specs.declared.RelayNo.{RelayNo}

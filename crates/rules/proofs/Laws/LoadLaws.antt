@@ -139,7 +139,7 @@ module _ (t : Tables) (v : Volume) (i clock : ℕ) (g : given v.no.0 ≡ true) (
   pub placed_all : (ps : List Put) (rs : List Relay) (places : List Placement) (after : List Relay)
       → all_of (fits_relay t.last_relay) rs ≡ true → no_clash same_relay_row rs ≡ true
       → place_all clock v.k v.m ps rs ≡ placed places after → PlacedAll t v ps rs places after
-  unfolding place_all all_of sum_of
+  unfolding place_all sum_of
   placed_all [] rs places after fit apart e =
       let q : rs ≡ after = cc in
       let w : [] ≡ places = cc in

@@ -32,7 +32,7 @@ any_cond true k x h = refl
 any_cond false k x h = refl
 
 any_hit : {A : Type 0} (p : A → Bool) (k : ℕ) (l : List A) → any_of p l ≡ is_hit (first_row p k l)
-unfolding any_of first_row
+unfolding first_row
 any_hit p k [] = refl
 any_hit p k (x ∷ xs) = rw (any_hit p (suc k) xs) (any_cond (p x) k x (first_row p (suc k) xs))
 
@@ -58,7 +58,6 @@ module _ {A B : Type 0} (f : A → B) where
   -- every row passes
   pub all_mapped : (p : A → Bool) (q : B → Bool) (l : List A) (d : A)
       → ((j : ℕ) → j < length l → p (get_or l j d) ≡ true → q (f (get_or l j d)) ≡ true) → all_of p l ≡ true → all_of q (map f l) ≡ true
-  unfolding all_of
   all_mapped p q [] d h e = refl
   all_mapped p q (x ∷ xs) d h e =
       and_both (h 0 (omega arith) (and_left (p x) (all_of p xs) e))
@@ -67,7 +66,6 @@ module _ {A B : Type 0} (f : A → B) where
   -- no row passes
   pub none_mapped : (p : A → Bool) (q : B → Bool) (l : List A) → ((x : A) → p x ≡ false → q (f x) ≡ false) → any_of p l ≡ false
       → any_of q (map f l) ≡ false
-  unfolding any_of
   none_mapped p q [] h e = refl
   none_mapped p q (x ∷ xs) h e = or_none (h x (or_left (p x) (any_of p xs) e)) (none_mapped p q xs h (or_right (p x) (any_of p xs) e))
 

@@ -45,7 +45,6 @@ module _ {A : Type 0} (no : A → ℕ) (z : A) where
 
   -- no row has a number that none had, if it had been given
   none_row : (p : A → Bool) (l : List A) (j : ℕ) → any_of p l ≡ false → p z ≡ false → p (get_or l j z) ≡ false
-  unfolding any_of
   none_row p [] j e f = f
   none_row p (x ∷ xs) zero e f = or_left (p x) (any_of p xs) e
   none_row p (x ∷ xs) (suc j) e f = none_row p xs j (or_right (p x) (any_of p xs) e) f

@@ -22,7 +22,7 @@ sum_but_one f g (x ∷ xs) (suc i) d h e =
 
 -- a table in which not every row passes has one that does not
 pub not_all_count : {A : Type 0} (p q : A → Bool) (l : List A) → ((x : A) → q x ≡ not (p x)) → any_of q l ≡ false → count_if p l ≡ length l
-unfolding any_of count_if
+unfolding count_if
 not_all_count p q [] e h = refl
 not_all_count p q (x ∷ xs) e h =
     let t = not-false (p x) (sym (e x) ∙ or_left (q x) (any_of q xs) h) in

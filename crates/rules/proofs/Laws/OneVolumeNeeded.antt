@@ -2,8 +2,7 @@
 -- is deleted. No call makes such a token (Family.antt), so no desk reached from a fresh one is like it. Assumes nothing.
 use Rattle.std.specs.Prelude.{◌≡◌, refl, true, false, [], ◌∷◌, replicate}
 use Rattle.amount.specs.declared.Cap.TheVariants.{Unlimited}
-use Rattle.lists.specs.Lists.{first_row, all_of, any_of, no_clash}
-use Rattle.lists.specs.Bytes.{same_bytes}
+use Rattle.lists.specs.Lists.{first_row, no_clash}
 use Rattle.text.specs.Text.{is_name, is_prefix}
 use Rattle.rules.specs.declared.Volume.{Volume}
 use Rattle.rules.specs.declared.Token.{Token}
@@ -48,13 +47,13 @@ stray_desk = record {
 }
 
 pub stray_before : sound stray_desk ≡ true
-unfolding sound sound_tables sound_volumes sound_entries sound_tokens sound_relays sound_volume sound_entry sound_token sound_relay sound_session same_name same_entry all_of any_of no_clash first_row is_name is_prefix volume_there parent_there chain same_bytes
+unfolding sound sound_tables sound_volumes sound_entries sound_tokens sound_relays sound_volume sound_entry sound_token sound_relay sound_session same_name same_entry no_clash first_row is_name is_prefix volume_there parent_there chain
 stray_before = refl
 
 pub stray_accepted : (step (ask (delete fresh_account (record { 0 = 1 }))) stray_desk).answer.number ≡ 0
-unfolding step rule ask_rule delete_rule delete_in volume_of owned_by cleared sound sound_tables sound_volumes sound_entries sound_tokens sound_relays sound_volume sound_entry sound_token sound_relay sound_session same_name same_entry all_of any_of no_clash first_row is_name is_prefix volume_there parent_there chain same_bytes
+unfolding step rule ask_rule delete_rule delete_in volume_of owned_by cleared sound sound_tables sound_volumes sound_entries sound_tokens sound_relays sound_volume sound_entry sound_token sound_relay sound_session same_name same_entry no_clash first_row is_name is_prefix volume_there parent_there chain
 stray_accepted = refl
 
 pub stray_after : sound (step (ask (delete fresh_account (record { 0 = 1 }))) stray_desk).desk ≡ false
-unfolding step rule ask_rule delete_rule delete_in volume_of owned_by cleared sound sound_tables sound_volumes sound_entries sound_tokens sound_relays sound_volume sound_entry sound_token sound_relay sound_session same_name same_entry all_of any_of no_clash first_row is_name is_prefix volume_there parent_there chain same_bytes
+unfolding step rule ask_rule delete_rule delete_in volume_of owned_by cleared sound sound_tables sound_volumes sound_entries sound_tokens sound_relays sound_volume sound_entry sound_token sound_relay sound_session same_name same_entry no_clash first_row is_name is_prefix volume_there parent_there chain
 stray_after = refl

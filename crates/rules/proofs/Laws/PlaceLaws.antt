@@ -49,14 +49,14 @@ length_in_order r (s ∷ ss) =
 
 module _ (q : Relay → Bool) where
   any_in_order : (r : Relay) (rs : List Relay) → any_of q (in_order r rs) ≡ (q r || any_of q rs)
-  unfolding in_order any_of
+  unfolding in_order
   any_in_order r [] = refl
   any_in_order r (s ∷ ss) =
       cond_case (λ l. any_of q l ≡ (q r || (q s || any_of q ss))) (comes_before r s) (r ∷ s ∷ ss) (s ∷ in_order r ss) (λ e. refl)
       (λ e. rw (any_in_order r ss) (or_swap (q s) (q r) (any_of q ss)))
 
   all_in_order : (r : Relay) (rs : List Relay) → all_of q (in_order r rs) ≡ (q r && all_of q rs)
-  unfolding in_order all_of
+  unfolding in_order
   all_in_order r [] = refl
   all_in_order r (s ∷ ss) =
       cond_case (λ l. all_of q l ≡ (q r && (q s && all_of q ss))) (comes_before r s) (r ∷ s ∷ ss) (s ∷ in_order r ss) (λ e. refl)
@@ -71,7 +71,7 @@ clash_swap false false false d = refl
 
 clash_in_order : (clash : Relay → Relay → Bool) → ((a b : Relay) → clash a b ≡ clash b a) → (r : Relay) (rs : List Relay)
     → no_clash clash (in_order r rs) ≡ (not (any_of (clash r) rs) && no_clash clash rs)
-unfolding in_order no_clash any_of
+unfolding in_order no_clash
 clash_in_order clash sy r [] = refl
 clash_in_order clash sy r (s ∷ ss) =
     cond_case (λ l. no_clash clash l ≡ (not (clash r s || any_of (clash r) ss) && (not (any_of (clash s) ss) && no_clash clash ss)))
@@ -92,14 +92,14 @@ module _ (p : Relay → Bool) where
   length_ranked (r ∷ rs) = length_one (p r) r (ranked p rs) ∙ ap (λ (n : ℕ). bit (p r) + n) (length_ranked rs)
 
   pub ranked_pass : (rs : List Relay) → all_of p (ranked p rs) ≡ true
-  unfolding ranked all_of
+  unfolding ranked
   ranked_pass [] = refl
   ranked_pass (r ∷ rs) =
       cond_case (λ l. all_of p l ≡ true) (p r) (in_order r (ranked p rs)) (ranked p rs)
       (λ e. all_in_order p r (ranked p rs) ∙ and_both e (ranked_pass rs)) (λ e. ranked_pass rs)
 
   pub all_ranked : (q : Relay → Bool) (rs : List Relay) → all_of q rs ≡ true → all_of q (ranked p rs) ≡ true
-  unfolding ranked all_of
+  unfolding ranked
   all_ranked q [] h = refl
   all_ranked q (r ∷ rs) h =
       let rest = all_ranked q rs (and_right (q r) (all_of q rs) h) in
@@ -107,7 +107,7 @@ module _ (p : Relay → Bool) where
       (λ e. all_in_order q r (ranked p rs) ∙ and_both (and_left (q r) (all_of q rs) h) rest) (λ e. rest)
 
   pub none_ranked : (q : Relay → Bool) (rs : List Relay) → any_of q rs ≡ false → any_of q (ranked p rs) ≡ false
-  unfolding ranked any_of
+  unfolding ranked
   none_ranked q [] h = refl
   none_ranked q (r ∷ rs) h =
       let rest = none_ranked q rs (or_right (q r) (any_of q rs) h) in

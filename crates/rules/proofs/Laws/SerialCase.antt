@@ -3,8 +3,7 @@
 use Rattle.std.specs.Prelude.{◌≡◌, refl, List, [], ◌∷◌, ◌++◌, map, ℕ}
 use Rattle.std.proofs.Math.Decide.{ℕ_discrete}
 use Rattle.amount.specs.declared.Cap.TheVariants.{Unlimited}
-use Rattle.lists.specs.Lists.{first_row, all_of, any_of, count_if, keep, sum_of, total, no_clash, bit_set}
-use Rattle.lists.specs.Bytes.{same_bytes, starts_with}
+use Rattle.lists.specs.Lists.{first_row, count_if, sum_of, total, no_clash, bit_set}
 use Rattle.text.specs.Text.{onto_first, parts, is_part, is_path, is_path_and_slash, is_prefix, is_name}
 use Rattle.serial.specs.Second.{choose, grown, placed, session, second_after, second, events, calls}
 use Rattle.std.specs.Int.Count.{ones}
@@ -62,7 +61,7 @@ told e = (e.1.number, e.1.value)
 
 -- a list of calls from a fresh desk, each with its answer
 unfoldable happens : List Call → List (Call × Answer)
-unfolding events step rule ask_rule work_rule sound sound_tables sound_relays sound_tokens sound_entries sound_volumes sound_session same_path sound_put sound_relay sound_token parent_there volume_there same_entry sound_entry sound_in sound_placement same_name sound_volume first_row all_of any_of count_if keep sum_of total no_clash same_bytes starts_with onto_first parts is_part is_path is_path_and_slash is_prefix is_name is_entry is_put owned_by volume_of token_of entry_of scope_fits chain too_few eligible_set bit_set ones in_order ranked taken holds_shard loaded shard_bytes bytes_on shards_on lightened effective rent_for has_name create_in create_rule deposit_in deposit_rule token_in new_token grant_in grant_rule look_entry look_in look_rule register_in register_rule open_volume open_token open_rule stage_put stage_token stage_rule abandon_rule is_replaced is_kept sizes_after is_new_path passes_quotas passes_size passes_room below_rent place_all store_new store_at store_all charged committed commit_placed commit_limits commit_token commit_volume commit_rule
+unfolding events step rule ask_rule work_rule sound sound_tables sound_relays sound_tokens sound_entries sound_volumes sound_session same_path sound_put sound_relay sound_token parent_there volume_there same_entry sound_entry sound_in sound_placement same_name sound_volume first_row count_if sum_of total no_clash onto_first parts is_part is_path is_path_and_slash is_prefix is_name is_entry is_put owned_by volume_of token_of entry_of scope_fits chain too_few eligible_set bit_set ones in_order ranked taken holds_shard loaded shard_bytes bytes_on shards_on lightened effective rent_for has_name create_in create_rule deposit_in deposit_rule token_in new_token grant_in grant_rule look_entry look_in look_rule register_in register_rule open_volume open_token open_rule stage_put stage_token stage_rule abandon_rule is_replaced is_kept sizes_after is_new_path passes_quotas passes_size passes_room below_rent place_all store_new store_at store_all charged committed commit_placed commit_limits commit_token commit_volume commit_rule
 happens cs = events step_of cs (fresh_desk 100)
 
 -- the answers of the first list: 19 for the stage on an idle slot, 9 for the commit after another's, 15 for the look before the second commit

@@ -5,7 +5,7 @@ use Rattle.std.proofs.Common.{◌∙◌, add-one, arith, length-take, take-suc-s
 use borrow.Author.Tests.{le-leb}
 use Rattle.std.proofs.Math.ListN.{length-set}
 use Rattle.std.proofs.Math.Seq.{take-set-lt, map-set_same}
-use Rattle.lists.specs.Lists.{miss, hit, find, all_of, no_clash}
+use Rattle.lists.specs.Lists.{miss, hit, find, no_clash}
 use Rattle.lists.specs.Bytes.{same_bytes}
 use Rattle.lists.specs.ByteLaws.{same_eq}
 use Rattle.lists.specs.BoolLaws.{and_left, and_right, and_both}
@@ -41,7 +41,7 @@ path_of q = text_bytes q.path
 module _ (t : Tables) (parts : Parts t) where
   pub opened_sound : (m : TokenNo) (i : ℕ) (k : Token) → token_of m t ≡ hit i k → (x : VolumeNo) (j : ℕ) (v : Volume) → volume_of x t ≡ hit j v
       → SlotSound t (opened k.no v.no v.version)
-  unfolding token_of volume_of all_of no_clash
+  unfolding token_of volume_of no_clash
   opened_sound m i k e x j v f = record {
     places = refl;
     session =
@@ -119,7 +119,6 @@ module _ (t : Tables) (s : Session) (h : SlotSound t s) (b : busy s ≡ true) (p
     path_new x = rw (text_bytes_lem path)
 
     pub appended : SlotSound t added
-    unfolding all_of
     appended = record {
       places = length-set s.puts s.count p ∙ h.places;
       session =

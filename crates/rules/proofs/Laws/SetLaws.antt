@@ -34,7 +34,7 @@ module _ {A : Type 0} where
   -- one row more at the end: it clashes with none before it, where q tells which rows it clashes with
   pub clash_last : (c : A → A → Bool) (q : A → Bool) (l : List A) (y : A) → ((x : A) → c x y ≡ q x) → any_of q l ≡ false → no_clash c l ≡ true
       → no_clash c (l ++ (y ∷ [])) ≡ true
-  unfolding any_of no_clash
+  unfolding no_clash
   clash_last c q [] y f g e = refl
   clash_last c q (x ∷ xs) y f g e =
       let n = not-true (any_of (c x) xs) (and_left (not (any_of (c x) xs)) (no_clash c xs) e) in

@@ -112,7 +112,6 @@ module _ (e : Entry) (news es after : List Entry) (ready : Ready (e ∷ news) es
   gone = get_or es s.row fresh_entry
 
   used_e : used_entry e ≡ true
-  unfolding all_of
   used_e = and_left (used_entry e) (all_of used_entry news) ready.new_used
 
   apart_e : (j : ℕ) → j < length news → same_entry e (get_or news j fresh_entry) ≡ false
@@ -180,7 +179,7 @@ module _ (e : Entry) (news es after : List Entry) (ready : Ready (e ∷ news) es
       omega arith
 
   still_ready : Ready news after
-  unfolding all_of no_clash
+  unfolding no_clash
   still_ready =
       record {
         apart = still_apart;
@@ -195,12 +194,12 @@ module _ (e : Entry) (news es after : List Entry) (ready : Ready (e ∷ news) es
     lost ns x = cond (replaced_by ns x) (f x) 0
 
     lost_gone : lost (e ∷ news) gone ≡ f gone
-    unfolding replaced_by any_of
+    unfolding replaced_by
     lost_gone =
         ⊎_elim (λ q. cond_case (λ n. n ≡ f gone) (replaced_by (e ∷ news) gone) (f gone) 0 (λ t. refl) (λ t. sym (zero-free gone q))) (λ q. rw q) s.old
 
     lost_other : (j : ℕ) → j < length es → (j ≡ s.row → ⊥) → lost (e ∷ news) (get_or es j fresh_entry) ≡ lost news (get_or es j fresh_entry)
-    unfolding replaced_by any_of
+    unfolding replaced_by
     lost_other j h n = rw (s.others j h n)
 
     sum_step : sum_of f after + sum_of (lost (e ∷ news)) es ≡ sum_of f es + f e + sum_of (lost news) after
@@ -221,7 +220,7 @@ module _ (e : Entry) (news es after : List Entry) (ready : Ready (e ∷ news) es
 
   rows_step : (q : Entry → Bool) → all_of (λ x. replaced_by (e ∷ news) x || q x) es ≡ true → q e ≡ true
       → all_of (λ x. replaced_by news x || q x) after ≡ true
-  unfolding replaced_by any_of
+  unfolding replaced_by
   rows_step q h k =
       at_all (λ x. replaced_by news x || q x) after fresh_entry
       (λ j b.
@@ -260,7 +259,7 @@ stored_apart (e ∷ news) es ready =
 
 pub stored_rows : (q : Entry → Bool) (news es : List Entry) → Ready news es → all_of (λ x. replaced_by news x || q x) es ≡ true
     → all_of q news ≡ true → all_of q (stored news es) ≡ true
-unfolding stored all_of any_of replaced_by
+unfolding stored replaced_by
 stored_rows q [] es ready h k = h
 stored_rows q (e ∷ news) es ready h k =
     let s = first_stored e news es ready in
@@ -274,7 +273,7 @@ sum_none (x ∷ xs) = omega (arith, sum_none xs)
 
 module _ (f : Entry → ℕ) (zero-free : (x : Entry) → free_entry x ≡ true → f x ≡ 0) where
   sum_lost : (news es : List Entry) → Ready news es → sum_of f (stored news es) + sum_of (λ x. cond (replaced_by news x) (f x) 0) es ≡ sum_of f es + sum_of f news
-  unfolding stored sum_of any_of replaced_by
+  unfolding stored sum_of replaced_by
   sum_lost [] es ready = omega (arith, sum_none es)
   sum_lost (e ∷ news) es ready =
       let s = first_stored e news es ready in

@@ -30,7 +30,6 @@ module _ {A B : Type 0} (f : A → B) (p : B → Bool) (q : A → Bool) (l : Lis
 
 -- a test that all rows share
 pub any_and : {A : Type 0} (b : Bool) (p : A → Bool) (l : List A) → any_of (λ x. b && p x) l ≡ (b && any_of p l)
-unfolding any_of
 any_and true p [] = refl
 any_and false p [] = refl
 any_and true p (x ∷ xs) = ap (λ (c : Bool). p x || c) (any_and true p xs)

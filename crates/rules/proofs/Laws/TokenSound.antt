@@ -79,7 +79,7 @@ module _ (t : Tables) (inv : Whole t) (s : ScopeArg) (fits : not (scope_fits s) 
 
 -- revoke: where the token stands in the chain of a parent, it stands in the child's too
 revoke_stay : (t : Tables) → Whole t → (m : TokenNo) → ParentsStay (descends t.tokens m) t.tokens
-unfolding descends any_of
+unfolding descends
 revoke_stay t inv m j b w g i p e =
     not_pass (descends t.tokens m p)
     (λ h.

@@ -28,12 +28,6 @@ loop-k-preserved c =
 pub bounds-marks-i : goal.bounds-marks-i
 bounds-marks-i c = search mapped-fills
 
-pub overflow_add-i : goal.overflow_add-i
-overflow_add-i c = search mapped-fills
-
-pub loop-i-smaller : goal.loop-i-smaller
-loop-i-smaller c = search mapped-fills
-
 pub loop-i-preserved : goal.loop-i-preserved
 loop-i-preserved c =
     elim c.if-is_number.branch [ then-is_number+else-loop-k-test w ↦ search (kept_marked, replaced_told, rules) | else-is_number w ↦ search (kept_unmarked, replaced_other, rules) ]

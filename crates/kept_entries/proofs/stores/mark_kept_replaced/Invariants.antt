@@ -11,11 +11,5 @@ abbrev pub invariant-loop-i : goal.invariant-loop-i
 invariant-loop-i l =
     FillLoop (replicate 64 false) 0 (map (is_replaced l.fn.n (take l.fn.count (puts_in l.fn.journal l.fn.puts))) (entries_in l.fn.journal l.fn.entries)) 64 l.i l.marks
 
-abbrev pub decreases-loop-i : goal.decreases-loop-i
-decreases-loop-i l = 64 - l.i
-
 abbrev pub invariant-loop-k : goal.invariant-loop-k
 invariant-loop-k l = FlagLoop (is_put (path_in l.fn.journal l.at l.len)) (take l.fn.count (puts_in l.fn.journal l.fn.puts)) l.m l.k l.found
-
-abbrev pub decreases-loop-k : goal.decreases-loop-k
-decreases-loop-k l = l.m - l.k

@@ -1,20 +1,11 @@
--- Other than 32 rows answer 1; what a copy of the rows decides is said of the rows themselves.
-use Rattle.std.proofs.Common.{arith}
+-- A refusal leaves the rows, and success sets the one row.
+use Rattle.std.proofs.Common.{sym}
 use Rattle.rules.specs.Tables.{with_beat}
-use Rattle.rows.specs.Blank.{blank_relay}
-use Rattle.lent_relays.specs.Lent.{beat_answer}
-use Rattle.lent_relays.proofs.LentLaws.{beat_size, beat_in_lem}
-use Rattle.lent_relays.proofs.RowCallLaws.{none_changed, row_refused, row_below, row_changed}
+use Rattle.lent_relays.proofs.LentLaws.{refused_rows, accepted_rows}
 use Rattle.lent_relays.proofs.calls.heartbeat.Goals as goal
 
-pub returns-then-relays-ne32 : goal.returns-then-relays-ne32
-returns-then-relays-ne32 c = none_changed with_beat c.args.clock _ _ _ (beat_size c.args.clock c.args.relay c.args.relays.now c.if-relays-ne32.true) (λ z. omega arith)
+pub returns-in_err-i-clause-rows : goal.returns-in_err-i-clause-rows
+returns-in_err-i-clause-rows c = refused_rows (λ r. with_beat r c.args.clock) _ _ _ (sym c.in_err-i.ensures.answer)
 
-pub returns-then-a-ne0 : goal.returns-then-a-ne0
-returns-then-a-ne0 c = row_refused (beat_answer c.args.clock c.args.relay) with_beat c.args.clock _ _ _ c.copy_rows-rows.ensures c.beat_answer-a.ensures c.if-a-ne0.true
-
-pub beat_row-requires : goal.beat_row-requires
-beat_row-requires c = row_below (beat_answer c.args.clock c.args.relay) with_beat c.args.clock _ _ _ c.copy_rows-rows.ensures c.beat_answer-a.ensures (beat_in_lem _ _ _) c.if-a-ne0.false
-
-pub returns : goal.returns
-returns c = row_changed (beat_answer c.args.clock c.args.relay) with_beat c.args.clock _ _ _ c.copy_rows-rows.ensures c.beat_answer-a.ensures blank_relay _ c.if-a-ne0.false c.beat_row.ensures
+pub returns-clause-rows : goal.returns-clause-rows
+returns-clause-rows c = accepted_rows (λ r. with_beat r c.args.clock) _ _ _ _ (sym c.in_ok-i.ensures.answer) c.beat_row.ensures

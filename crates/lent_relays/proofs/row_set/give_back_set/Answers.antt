@@ -11,7 +11,7 @@ loop-i-init c = search (set_start, rows_length, rules)
 
 pub loop-i-preserved : goal.loop-i-preserved
 loop-i-preserved c =
-    elim c.if-in_set.branch [ then-in_set w ↦ set_in c.args.set c.args.bytes _ 32 c.loop-i.i c.loop-i.t blank_relay c.loop-i.invariant c.loop-i-test.true _ _ c.in_set.ensures w.if-in_set.true (w.t-is ∙ w.give_back_row.ensures) | else-in_set w ↦ rw w.t-is (set_out c.args.set c.args.bytes _ 32 c.loop-i.i c.loop-i.t blank_relay c.loop-i.invariant c.loop-i-test.true _ c.in_set.ensures w.if-in_set.false) ]
+    elim c.if-in_set.branch [ then-in_set w ↦ set_in c.args.set c.args.bytes _ 32 c.loop-i.i c.loop-i.left blank_relay c.loop-i.invariant c.loop-i-test.true _ _ c.in_set.ensures w.if-in_set.true (w.left-is ∙ w.give_back_row.ensures) | else-in_set w ↦ rw w.left-is (set_out c.args.set c.args.bytes _ 32 c.loop-i.i c.loop-i.left blank_relay c.loop-i.invariant c.loop-i-test.true _ c.in_set.ensures w.if-in_set.false) ]
 
 pub returns : goal.returns
 returns c = search (set_end, rows_length, rules)

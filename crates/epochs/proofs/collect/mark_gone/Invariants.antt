@@ -1,0 +1,10 @@
+-- `collect::mark_gone` meets its contract: after i turns the first i entries have their marks. Assumes nothing.
+use mathlib.Core.Bool.{false}
+use mathlib.Core.List.{map}
+use lib.ListN.{replicate}
+use Rattle.lists.specs.ByteLoopLaws.{FillLoop}
+use Rattle.epochs.specs.Gone.{entry_gone}
+use Rattle.epochs.proofs.collect.mark_gone.Given as goal
+
+abbrev pub invariant-loop-i : goal.invariant-loop-i
+invariant-loop-i l = FillLoop (replicate 64 false) 0 (map (entry_gone l.gone) l.entries) 64 l.i l.marks

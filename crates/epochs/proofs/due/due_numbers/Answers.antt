@@ -1,0 +1,5 @@
+use Rattle.lists.specs.ByteLoopLaws.{Fills-of}
+use Rattle.epochs.proofs.due.due_numbers.Goals as goal
+
+pub loop-i-preserved : goal.loop-i-preserved
+loop-i-preserved c = search Fills-of

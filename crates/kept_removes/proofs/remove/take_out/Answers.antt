@@ -1,0 +1,6 @@
+-- `remove::take_out` meets its contract: the marked entries go, and the volume has its new version. Assumes nothing.
+use Rattle.kept_removes.proofs.RemoveLaws.{takes_out}
+use Rattle.kept_removes.proofs.remove.take_out.Goals as goal
+
+pub returns : goal.returns
+returns c = search takes_out

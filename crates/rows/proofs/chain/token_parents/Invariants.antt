@@ -1,0 +1,7 @@
+use Rattle.std.proofs.Common.{map, replicate}
+use Rattle.lists.specs.ByteLoopLaws.{FillLoop}
+use Rattle.rows.specs.Links.{token_parent}
+use Rattle.rows.proofs.chain.token_parents.Given as goal
+
+abbrev pub invariant-loop-i : goal.invariant-loop-i
+invariant-loop-i l = FillLoop (replicate 32 0) 0 (map token_parent l.rows) 32 l.i l.parents

@@ -1,0 +1,5 @@
+-- `new_session` meets its contract: every put is a fresh one. Assumes nothing.
+use Rattle.sessions.proofs.open.new_session.Goals as goal
+
+pub returns : goal.returns
+returns c = rw c.fresh_put-put.ensures

@@ -1,0 +1,18 @@
+-- `open_on` meets its contract: it answers as for the row that it finds, or as for none. Assumes nothing.
+use Rattle.lists.specs.AnswerLaws.{in_table}
+use Rattle.sessions.proofs.RowAnswers.{opens_none, opens_at}
+use Rattle.sessions.proofs.open.open_on.Goals as goal
+
+-- no row
+pub returns-in_default : goal.returns-in_default
+returns-in_default c = search opens_none
+
+pub offset_bounds-rows-i : goal.offset_bounds-rows-i
+offset_bounds-rows-i c = search in_table
+
+pub bounds-rows-i : goal.bounds-rows-i
+bounds-rows-i c = search in_table
+
+-- the row
+pub returns : goal.returns
+returns c = search opens_at

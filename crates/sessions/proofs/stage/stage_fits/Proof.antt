@@ -1,8 +1,0 @@
--- `stage_fits` meets its contract: each return is that of its part. Assumes nothing.
-use Rattle.lists.specs.AnswerLaws.{checks}
-use borrow.Author.Rules.{rules}
-use Rattle.sessions.proofs.stage.stage_fits.Statement.{statement}
-use Rattle.sessions.proofs.stage.stage_fits.Tie as tie
-
-pub stage_fits_spec : {M : Type 1} → statement M
-stage_fits_spec = tie.close (tie.spec (λ c κs. search rules) (λ c. search checks) (λ c. search checks))
