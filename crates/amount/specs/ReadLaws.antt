@@ -10,7 +10,7 @@ use Rattle.amount.specs.declared.error.AmountError.{AmountError}
 use Rattle.amount.specs.declared.error.AmountError.TheVariants.{Text}
 use Rattle.amount.specs.declared.unit.ByteUnit.{ByteUnit}
 use Rattle.lists.specs.Bytes.{same_bytes}
-use Rattle.amount.specs.Digits.{leading, following, number, AllDigits}
+use Rattle.amount.specs.Digits.{leading, following, number_after, number, AllDigits}
 use Rattle.amount.specs.DigitLaws.{number_append, number_after_lem, number_below}
 use Rattle.amount.specs.Amount.{size_of, counted, no_amount, within, fraction_digits, is_mark, unit_after, with_unit, after_whole, parse, amount_parsed, amount_of, unlimited_text}
 
@@ -32,6 +32,10 @@ amount_joined w f u = rw (number_append 0 w f, number_after_lem (number w) f)
 pub no_digits : AllDigits []
 unfolding leading
 no_digits = refl
+
+pub no_number : 0 ≡ number []
+unfolding number_after
+no_number = refl
 
 -- What follows the whole digits w: a mark and a fraction, or the unit.
 module _ (w : List ℕ) where

@@ -1,9 +1,9 @@
 // Reading a typed amount.
 ghost use Rattle.std.specs.Prelude.{◌≡◌, ◌+◌, ◌*◌, ◌^◌, ◌<◌, ◌≤◌, length};
 ghost use Rattle.amount.specs.Amount.{after_whole, amount_of, amount_parsed, counted, size_of, unit_after, with_unit};
-ghost use Rattle.amount.specs.Digits.{AllDigits};
+ghost use Rattle.amount.specs.Digits.{AllDigits, number};
 
-use crate::digits::{digits, number};
+use crate::digits::{DigitRun, NO_DIGITS, digits};
 use crate::{AmountError, ByteUnit, Cap, LIMIT, UNLIMITED};
 
 // The count of bytes: the fraction's part first, since NotWhole comes before TooLarge. The fraction
@@ -31,28 +31,30 @@ fn count(whole: u64, fraction: u64, places: usize, unit: ByteUnit) -> Result<Cap
 }
 
 // The amount, where the digits are read and one space and a unit must follow.
+#[inline(always)]
 #[tactic(auto, using(crate::specs::AmountLaws::power_pos, crate::specs::ReadLaws::all_below, crate::specs::ReadLaws::amount_joined))]
-fn finish(whole: &[u8], fraction: &[u8], rest: &[u8]) -> Result<Cap, AmountError>
-    requires whole { (length whole.now ≤ 11) × AllDigits whole.now }
-    requires fraction { (length fraction.now ≤ 9) × AllDigits fraction.now }
-    ensures { result ≡ amount_parsed (with_unit whole.now fraction.now (unit_after rest.now)) }
+fn finish(whole: DigitRun, fraction: DigitRun, rest: &[u8]) -> Result<Cap, AmountError>
+    requires whole { whole.number ≡ number whole.bytes.now }
+    requires fraction { fraction.number ≡ number fraction.bytes.now }
+    requires places { (length fraction.bytes.now ≤ 9) × AllDigits fraction.bytes.now }
+    ensures { result ≡ amount_parsed (with_unit whole.entry.bytes.now fraction.entry.bytes.now (unit_after rest.now)) }
 {
     let unit = ByteUnit::after(rest).ok_or(AmountError::Text)?;
-    count(number(whole), number(fraction), fraction.len(), unit)
+    count(whole.number, fraction.number, fraction.bytes.len(), unit)
 }
 
 // The amount, where the whole digits are read: an optional mark and fraction, then the unit.
-#[tactic(auto, using(crate::specs::ReadLaws::no_digits, crate::specs::ReadLaws::no_mark, crate::specs::ReadLaws::no_fraction, crate::specs::ReadLaws::fraction_on))]
-fn after_whole(whole: &[u8], rest: &[u8]) -> Result<Cap, AmountError>
-    requires { (length whole.now ≤ 11) × AllDigits whole.now }
-    ensures { result ≡ amount_parsed (after_whole whole.now rest.now) }
+#[tactic(auto, using(crate::specs::ReadLaws::no_digits, crate::specs::ReadLaws::no_number, crate::specs::ReadLaws::no_mark, crate::specs::ReadLaws::no_fraction, crate::specs::ReadLaws::fraction_on))]
+fn after_whole(whole: DigitRun, rest: &[u8]) -> Result<Cap, AmountError>
+    requires { whole.number ≡ number whole.bytes.now }
+    ensures { result ≡ amount_parsed (after_whole whole.entry.bytes.now rest.now) }
 {
     match rest {
         [b',' | b'.', after @ ..] => {
             let (fraction, rest) = digits(after, 9)?;
             finish(whole, fraction, rest)
         }
-        _ => finish(whole, b"", rest),
+        _ => finish(whole, NO_DIGITS, rest),
     }
 }
 
@@ -65,7 +67,7 @@ pub fn read_amount(text: &[u8]) -> Result<Cap, AmountError>
         return Ok(Cap::Unlimited);
     }
     let (whole, rest) = digits(text, 11)?;
-    if 1 < whole.len() && whole[0] == b'0' {
+    if 1 < whole.bytes.len() && whole.bytes[0] == b'0' {
         return Err(AmountError::Text);
     }
     after_whole(whole, rest)
