@@ -67,7 +67,7 @@ impl<const N: usize> BoundedText<N> {
     pub fn covers(&self, path: &[u8]) -> bool
         ensures { result ≡ covers (text_bytes self.now) path.now }
     {
-        path.starts_with(self.as_bytes())
+        lists::starts_with(self.as_bytes(), path)
     }
 }
 

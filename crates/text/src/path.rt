@@ -26,9 +26,9 @@ impl Kind {
     fn longer(self, is_dot: bool) -> Self
         ensures { result ≡ longer is_dot self }
     {
-        match self {
-            Kind::Empty if is_dot => Kind::Dot,
-            Kind::Dot if is_dot => Kind::DotDot,
+        match (is_dot, self) {
+            (true, Kind::Empty) => Kind::Dot,
+            (true, Kind::Dot) => Kind::DotDot,
             _ => Kind::Other,
         }
     }
@@ -54,16 +54,15 @@ impl Scan {
     fn longer(self, b: u8) -> Self
         ensures { result ≡ scan_byte b self }
     {
-        if b == SLASH {
-            Self {
+        match b {
+            SLASH => Self {
                 first: Kind::Empty,
                 rest: self.passes(),
-            }
-        } else {
-            Self {
+            },
+            _ => Self {
                 first: self.first.longer(b == DOT),
                 rest: self.rest,
-            }
+            },
         }
     }
 }
