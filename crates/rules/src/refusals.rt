@@ -2,6 +2,7 @@
 ghost use Rattle.std.specs.Prelude.{◌≡◌};
 ghost use Rattle.rules.specs.Numbers.{refusal_number};
 
+use crate::numbers;
 use std::fmt;
 
 #[derive(Clone, Copy, Debug, PartialEq, Eq)]
@@ -36,29 +37,29 @@ impl Refusal {
         ensures { result ≡ refusal_number self }
     {
         match self {
-            Refusal::Bad => 1,
-            Refusal::NoVolume => 2,
-            Refusal::NotOwner => 3,
-            Refusal::NoToken => 4,
-            Refusal::Window => 5,
-            Refusal::Mode => 6,
-            Refusal::Prefix => 7,
-            Refusal::State => 8,
-            Refusal::Conflict => 9,
-            Refusal::Quota => 10,
-            Refusal::Size => 11,
-            Refusal::Room => 12,
-            Refusal::Rent => 13,
-            Refusal::NoPlace => 14,
-            Refusal::NoEntry => 15,
-            Refusal::Clock => 16,
-            Refusal::Widens => 17,
-            Refusal::Deep => 18,
-            Refusal::Session => 19,
-            Refusal::TooMuch => 20,
-            Refusal::Spent => 21,
-            Refusal::NameTaken => 25,
-            Refusal::NoRelay => 26,
+            Refusal::Bad => numbers::BAD,
+            Refusal::NoVolume => numbers::NO_VOLUME,
+            Refusal::NotOwner => numbers::NOT_OWNER,
+            Refusal::NoToken => numbers::NO_TOKEN,
+            Refusal::Window => numbers::WINDOW,
+            Refusal::Mode => numbers::MODE,
+            Refusal::Prefix => numbers::PREFIX,
+            Refusal::State => numbers::STATE,
+            Refusal::Conflict => numbers::CONFLICT,
+            Refusal::Quota => numbers::QUOTA,
+            Refusal::Size => numbers::SIZE,
+            Refusal::Room => numbers::ROOM,
+            Refusal::Rent => numbers::RENT,
+            Refusal::NoPlace => numbers::NO_PLACE,
+            Refusal::NoEntry => numbers::NO_ENTRY,
+            Refusal::Clock => numbers::CLOCK,
+            Refusal::Widens => numbers::WIDENS,
+            Refusal::Deep => numbers::DEEP,
+            Refusal::Session => numbers::SESSION,
+            Refusal::TooMuch => numbers::TOO_MUCH,
+            Refusal::Spent => numbers::SPENT,
+            Refusal::NameTaken => numbers::NAME_TAKEN,
+            Refusal::NoRelay => numbers::NO_RELAY,
         }
     }
 }
