@@ -21,7 +21,7 @@ fn look_in(journal: &[u8], clock: u64, entries: [KeptEntry; 64], k: Token, path:
     ensures { (t : Tables) → t.clock ≡ clock → t.entries ≡ entries_in journal.now entries → unchanged t result ≡ look_in t path.now (hit 0 k) }
 {
     let n = k.volume;
-    let Some(i) = find_kept_entry(journal, entries, n, path) else {
+    let Some(i) = find_kept_entry(journal, &entries, n, path) else {
         let none = fresh_entry();
         return look_token(clock, k, false, none, path);
     };

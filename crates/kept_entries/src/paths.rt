@@ -30,14 +30,14 @@ pub fn is_kept_entry(journal: &[u8], e: KeptEntry, n: VolumeNo, path: &[u8]) -> 
     same_bytes(p, path)
 }
 
-// The index of the volume's entry at the path.
+// The index of the volume's entry at the path. The table is lent: by value it would be copied for each look.
 pub fn find_kept_entry(
     journal: &[u8],
-    rows: [KeptEntry; 64],
+    rows: &[KeptEntry; 64],
     n: VolumeNo,
     path: &[u8],
 ) -> Option<usize>
-    ensures { result ≡ first_at (is_entry n path.now) 0 (entries_in journal.now rows) }
+    ensures { result ≡ first_at (is_entry n path.now) 0 (entries_in journal.now rows.now) }
 {
     for i in 0..64 {
         if rows[i].volume.0 == n.0 {

@@ -76,7 +76,7 @@ fn remove_entry(
     ensures { Leaves journal.now volumes entries relays result (entry_rule path.now i v) }
 {
     let n = v.no;
-    let Some(_) = find_kept_entry(journal, entries, n, path) else {
+    let Some(_) = find_kept_entry(journal, &entries, n, path) else {
         return refuse(volumes, entries, relays, Refusal::NoEntry);
     };
     if 4294967295 <= v.version {
