@@ -1,6 +1,6 @@
 -- The transcript of a journal fits a buffer of `room_for` its length. Assumes nothing.
 use Rattle.std.specs.Prelude.{◌≡◌, refl, Bool, true, false, cond, List, [], ◌∷◌, ℕ, zero, suc, ◌+◌, ◌*◌, ◌^◌, ◌<◌, ◌≤◌, min, ltb, length, Option, None, Some}
-use Rattle.std.proofs.Math.Nat.{min-eq_left}
+use Rattle.std.proofs.Math.Nat.{min-eq_left, min-eq_right}
 use Rattle.std.proofs.Common.{arith, ltb-false, lit<, length-append}
 use Rattle.std.proofs.Math.Pow.{are_bytes}
 use Rattle.lists.specs.BoolLaws.{and_right}
@@ -108,6 +108,14 @@ unfolding transcript room_for
 transcript_fits l h = rw (from_start (contents l), length-append first_line (printed_from 0 (fresh_desk program_rate) (contents l))) (omega (arith, contents_fit l h))
 
 -- ---- the room that is stated
+
+pub room_large : (n : ℕ) → journal_most < n → 21 + 10 * journal_most ≡ room_for n
+unfolding room_for
+room_large n h = let k : journal_most ≤ n = omega arith in rw (min-eq_right k)
+
+pub room_small : (n : ℕ) → n ≤ journal_most → 21 + 10 * n ≡ room_for n
+unfolding room_for
+room_small n h = rw (min-eq_left h)
 
 pub least_room : (n : ℕ) → 21 ≤ room_for n
 unfolding room_for
