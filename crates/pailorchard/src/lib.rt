@@ -142,7 +142,8 @@ fn replay_with_desk(
     ensures desk_after { desk.new ≡ desk_where (answer_of journal.now transcript.old) journal.now desk.old }
 {
     let r = transcripts::replay(journal, transcript);
-    if r.written.is_ok() {
+    let done = r.written.is_ok();
+    if done {
         desk_bytes::write_desk(r.desk, desk);
     }
     r.written
